@@ -1,0 +1,5 @@
+pub mod Choice
+pub mod Turn
+pub mod Copy
+pub mod Windows
+pub mod Maps

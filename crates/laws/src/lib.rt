@@ -1,0 +1,1 @@
+// Laws that any crate may cite, in specs/: there is no code here.
