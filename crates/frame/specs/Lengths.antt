@@ -1,0 +1,21 @@
+-- The data lengths of a CAN FD frame: 01, "Numbers that hold everywhere".
+use Prim.Native.Nat.{ℕ}
+use mathlib.Core.Bool.{Bool, true, false, cond, _||_}
+use mathlib.Core.List.{List, [], _∷_}
+use lib.Dec.{eqb, leb}
+use Rattle.frame.specs.declared.length.Least.{Least}
+use Rattle.frame.specs.declared.length.Least.the-variants.{Length, Nothing}
+
+abbrev pub lengths : List ℕ
+lengths = 0 ∷ 1 ∷ 2 ∷ 3 ∷ 4 ∷ 5 ∷ 6 ∷ 7 ∷ 8 ∷ 12 ∷ 16 ∷ 20 ∷ 24 ∷ 32 ∷ 48 ∷ 64 ∷ []
+
+abbrev pub isLength : ℕ → Bool
+isLength n = leb n 8 || eqb n 12 || eqb n 16 || eqb n 20 || eqb n 24 || eqb n 32 || eqb n 48 || eqb n 64
+
+-- the first of a list that holds the need
+abbrev pub firstHolding : ℕ → List ℕ → Least
+firstHolding need [] = Nothing
+firstHolding need (n ∷ ns) = cond (leb need n) (Length n) (firstHolding need ns)
+
+abbrev pub leastLength : ℕ → Least
+leastLength need = firstHolding need lengths

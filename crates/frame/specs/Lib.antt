@@ -1,0 +1,6 @@
+pub mod Refusals
+pub mod Octets
+pub mod Pgn
+pub mod Lengths
+pub mod Identifiers
+pub mod Judge

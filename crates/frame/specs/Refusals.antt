@@ -1,0 +1,30 @@
+-- The numbers of the refusals: 01, "Numbered refusals".
+use Prim.Native.Nat.{ℕ}
+use Rattle.frame.specs.declared.refusal.Refusal.{Refusal}
+use Rattle.frame.specs.declared.refusal.Refusal.the-variants.{FrameLength, IdentifierRange, NotTaken, HeaderCut, DataCut, ServiceType, TrailerFormat, PgnForm, TransferLength, NotReceivers, AnnouncementForm, TooLong, Assurance, KeyOpen, SlotsFull, KeyNotOpen, FormatIndicator, AlreadyTaken, OutOfSequence, SegmentCut, StatusMismatch, Silence, OutOfBounds, PackRequest}
+
+abbrev pub numberOf : Refusal → ℕ
+numberOf FrameLength = 1
+numberOf IdentifierRange = 2
+numberOf NotTaken = 3
+numberOf HeaderCut = 4
+numberOf DataCut = 5
+numberOf ServiceType = 6
+numberOf TrailerFormat = 7
+numberOf PgnForm = 8
+numberOf TransferLength = 9
+numberOf NotReceivers = 10
+numberOf AnnouncementForm = 11
+numberOf TooLong = 12
+numberOf Assurance = 13
+numberOf KeyOpen = 14
+numberOf SlotsFull = 15
+numberOf KeyNotOpen = 16
+numberOf FormatIndicator = 17
+numberOf AlreadyTaken = 18
+numberOf OutOfSequence = 19
+numberOf SegmentCut = 20
+numberOf StatusMismatch = 21
+numberOf Silence = 22
+numberOf OutOfBounds = 23
+numberOf PackRequest = 24

@@ -1,0 +1,86 @@
+// The numbered refusals (01, "Numbered refusals").
+ghost use mathlib.Core.Path.{_≡_};
+ghost use Rattle.frame.specs.Refusals.{numberOf};
+
+pub enum Refusal {
+    // 1: a length that CAN FD has not
+    FrameLength,
+    // 2: an identifier above 29 bits
+    IdentifierRange,
+    // 3: pages, PF, DA or SA not taken
+    NotTaken,
+    // 4: fewer than 4 bytes left for a group's header
+    HeaderCut,
+    // 5: a group's data past the frame's end
+    DataCut,
+    // 6: a service type that is not taken
+    ServiceType,
+    // 7: a trailer format that is not taken
+    TrailerFormat,
+    // 8: a PGN above 18 bits, or with a wrong low byte
+    PgnForm,
+    // 9: a control frame not of 12 bytes, a data frame under 5
+    TransferLength,
+    // 10: a control or a role that is not a receiver's
+    NotReceivers,
+    // 11: an announcement to the wrong destination, or whose numbers do not agree
+    AnnouncementForm,
+    // 12: Total Bytes over a slot's
+    TooLong,
+    // 13: assurance data announced
+    Assurance,
+    // 14: the key is open already
+    KeyOpen,
+    // 15: no slot is free
+    SlotsFull,
+    // 16: the key is not open
+    KeyNotOpen,
+    // 17: a format indicator other than 0
+    FormatIndicator,
+    // 18: segment 0, or one already taken
+    AlreadyTaken,
+    // 19: a segment beyond the next one or beyond the count
+    OutOfSequence,
+    // 20: a data frame too short for the data due
+    SegmentCut,
+    // 21: an end of message status that is not as announced, or comes too early
+    StatusMismatch,
+    // 22: silence for the idle limit
+    Silence,
+    // 23: opening values, store length or state out of bounds
+    OutOfBounds,
+    // 24: a request that the packer cannot meet
+    PackRequest,
+}
+
+// The number of a refusal in 01's table.
+pub fn number(r: Refusal) -> u8
+    ensures { λ n. ⌜ n ≡ numberOf r ⌝ }
+{
+    match r {
+        Refusal::FrameLength => 1,
+        Refusal::IdentifierRange => 2,
+        Refusal::NotTaken => 3,
+        Refusal::HeaderCut => 4,
+        Refusal::DataCut => 5,
+        Refusal::ServiceType => 6,
+        Refusal::TrailerFormat => 7,
+        Refusal::PgnForm => 8,
+        Refusal::TransferLength => 9,
+        Refusal::NotReceivers => 10,
+        Refusal::AnnouncementForm => 11,
+        Refusal::TooLong => 12,
+        Refusal::Assurance => 13,
+        Refusal::KeyOpen => 14,
+        Refusal::SlotsFull => 15,
+        Refusal::KeyNotOpen => 16,
+        Refusal::FormatIndicator => 17,
+        Refusal::AlreadyTaken => 18,
+        Refusal::OutOfSequence => 19,
+        Refusal::SegmentCut => 20,
+        Refusal::StatusMismatch => 21,
+        Refusal::Silence => 22,
+        Refusal::OutOfBounds => 23,
+        Refusal::PackRequest => 24,
+    }
+}
