@@ -22,7 +22,7 @@ routeTaken own f =
     && not (eqb (f .sa .0) 255)
     && not (eqb (f .sa .0) (own .0))
 
-abbrev pub byFormat : ℕ → Route → Verdict
+unfoldable pub byFormat : ℕ → Route → Verdict
 byFormat pf route =
     cond (eqb pf 37) (MultiPg route)
     (cond (eqb pf 77) (Control route)
@@ -33,7 +33,7 @@ abbrev pub routeOf : Identifier → Route
 routeOf f = record { sa = f .sa; da = record { 0 = f .ps } }
 
 -- 2, then 1, then 3
-abbrev pub judged : Address → ℕ → ℕ → Verdict
+unfoldable pub judged : Address → ℕ → ℕ → Verdict
 judged own id bytes =
     cond (leb 536870912 id) (Refused IdentifierRange)
     (cond (not (isLength bytes)) (Refused FrameLength)

@@ -2,7 +2,7 @@ use mathlib.Core.Path.{refl, sym, ap, _∙_}
 use mathlib.Core.Bool.{not}
 use borrow.Author.Tests.{le-leb, lt-leb, not-true, not-false}
 use Rattle.laws.specs.Choice.{then, else}
-use Rattle.frame.specs.Judge.{byFormat, routeTaken, routeOf}
+use Rattle.frame.specs.Judge.{judged, byFormat, routeTaken, routeOf}
 use Rattle.frame.specs.declared.identifier.Identifier.{Identifier}
 use borrow.Author.Needs.{needs}
 use Rattle.frame.proofs.judge.judge.Statement.{statement}
@@ -16,6 +16,7 @@ use Rattle.frame.proofs.length.is_length.Reads as is-length-reads
 
 -- src/judge.rt:55:9
 returns : tie.Need-returns
+unfolding judged
 returns c = then _ _ _ _ (le-leb _ _ (c .if1 .taken)) refl
 
 -- src/judge.rt:57:9
@@ -24,6 +25,7 @@ is-length-requires c κs = search needs
 
 -- src/judge.rt:58:9
 returns-2 : tie.Need-returns-2
+unfolding judged
 returns-2 c =
     else _ _ _ _ (lt-leb _ _ (c .before .before .if1 .left))
     (then _ _ _ _ (ap not (sym (c .before .is-length .ensures)) ∙ c .if2 .taken) refl)
@@ -38,6 +40,7 @@ route-taken-requires c κs = search needs
 
 -- src/judge.rt:62:9
 returns-3 : tie.Need-returns-3
+unfolding judged
 returns-3 c =
     else _ _ _ _ (lt-leb _ _ (c .before .before .before .before .before .if1 .left))
     (else _ _ _ _ (ap not (sym (c .before .before .before .before .is-length .ensures)) ∙ c .before .before .before .if2 .left)
@@ -49,6 +52,7 @@ by-format-requires c κs = search needs
 
 -- src/judge.rt:51:1
 returns-4 : tie.Need-returns-4
+unfolding judged
 returns-4 c =
     else _ _ _ _ (lt-leb _ _ (c .before .before .before .before .before .before .before .if1 .left))
     (else _ _ _ _ (ap not (sym (c .before .before .before .before .before .before .is-length .ensures)) ∙ c .before .before .before .before .before .if2 .left)

@@ -1,0 +1,4 @@
+pub mod Slots
+pub mod Bounds
+pub mod Calls
+pub mod Answers

@@ -1,0 +1,68 @@
+-- An announcement judged, and the session that it opens: 01, "Announcement".
+use Prim.Native.Nat.{ℕ, _+_, _-_, _/_, min}
+use mathlib.Core.Bool.{Bool, true, false, cond, not, _&&_, _||_}
+use lib.Dec.{eqb, ltb}
+use Rattle.frame.specs.Pgn.{pgnOk}
+use Rattle.frame.specs.declared.Address.{Address}
+use Rattle.frame.specs.declared.refusal.Refusal.{Refusal}
+use Rattle.frame.specs.declared.refusal.Refusal.the-variants.{PgnForm, AnnouncementForm, TooLong, Assurance}
+use Rattle.transport.specs.declared.Key.{Key}
+use Rattle.transport.specs.declared.Kind.{Kind}
+use Rattle.transport.specs.declared.Kind.the-variants.{Rts, Bam}
+use Rattle.transport.specs.declared.control.Announcement.{Announcement}
+use Rattle.transport.specs.declared.response.Cts.{Cts}
+use Rattle.session.specs.declared.Session.{Session}
+use Rattle.session.specs.declared.announcement.Form.{Form}
+use Rattle.session.specs.declared.announcement.Form.the-variants.{Good, Bad}
+
+abbrev pub isRts : Kind → Bool
+isRts Rts = true
+isRts Bam = false
+
+-- RTS to 255, or BAM to the own address; a frame that is taken has no other DA
+abbrev pub misdirected : Address → Kind → Bool
+misdirected da Rts = eqb (da .0) 255
+misdirected da Bam = not (eqb (da .0) 255)
+
+-- Total Bytes 0, segments not Total Bytes divided by 60 rounded up, or MAX SGMTS 0 in an RTS
+abbrev pub badNumbers : Announcement → Bool
+badNumbers a =
+    eqb (a .total .0) 0
+    || not (eqb (a .segments .0) ((a .total .0 + 59) / 60))
+    || (isRts (a .kind) && eqb (a .max) 0)
+
+-- 11, 12, 13, 8
+unfoldable pub formOf : Announcement → Form
+formOf a =
+    cond (badNumbers a) (Bad AnnouncementForm)
+    (cond (ltb 4096 (a .total .0)) (Bad TooLong)
+    (cond (not (eqb (a .assurance) 0)) (Bad Assurance)
+    (cond (not (pgnOk (a .pgn))) (Bad PgnForm)
+    Good)))
+
+-- the smallest of MAX SGMTS, 16 and the segments left
+unfoldable pub grantOf : ℕ → ℕ → ℕ
+grantOf max left = min (min max 16) left
+
+-- the last segment of the first grant; a BAM has none
+abbrev pub firstGranted : Announcement → ℕ
+firstGranted a = cond (isRts (a .kind)) (grantOf (a .max) (a .segments .0)) 0
+
+abbrev pub sessionOf : Key → Announcement → ℕ → Session
+sessionOf k a last =
+    record {
+      key = k;
+      kind = a .kind;
+      total = a .total;
+      segments = a .segments;
+      max = a .max;
+      pgn = a .pgn;
+      next = record { 0 = 1 };
+      granted = record { 0 = firstGranted a };
+      mark = last;
+    }
+
+-- the CTS that answers an RTS: from segment 1
+abbrev pub firstCts : Key → Announcement → Cts
+firstCts k a =
+    record { key = k; next = record { 0 = 1 }; count = grantOf (a .max) (a .segments .0); pgn = a .pgn }

@@ -1,0 +1,3 @@
+pub mod Announcements
+pub mod Segments
+pub mod Ends

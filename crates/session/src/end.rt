@@ -1,0 +1,1 @@
+// The end of a session by its originator (01, "End").

@@ -1,0 +1,1 @@
+// How many segments one CTS grants (01, "Announcement" and "Segment").

@@ -1,0 +1,4 @@
+pub mod Control
+pub mod Segments
+pub mod Responses
+pub mod Reasons

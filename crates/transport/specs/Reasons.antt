@@ -1,0 +1,15 @@
+-- The wire reason of a refusal that an Abort carries: 001, Table 11; docs/WIRE.md has the mapping and why.
+use Prim.Native.Nat.{ℕ}
+use mathlib.Core.Bool.{cond}
+use lib.Dec.{eqb}
+use Rattle.frame.specs.Refusals.{numberOf}
+use Rattle.frame.specs.declared.refusal.Refusal.{Refusal}
+
+-- 12: the size exceeds what we have; 15: no further session; 19: bad segment number; 22: time-out; for every other the
+-- table has no line of that meaning
+unfoldable pub reasonOf : ℕ → ℕ
+reasonOf number =
+    cond (eqb number 12) 9 (cond (eqb number 15) 1 (cond (eqb number 19) 7 (cond (eqb number 22) 3 250)))
+
+abbrev pub wireReason : Refusal → ℕ
+wireReason r = reasonOf (numberOf r)

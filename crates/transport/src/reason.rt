@@ -1,0 +1,1 @@
+// The wire reasons of an Abort (001, Table 11).
