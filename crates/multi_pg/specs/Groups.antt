@@ -73,3 +73,16 @@ readFrom (suc n) d at = onStep (stepAt d at) (λ g. readFrom n d (g .start + g .
 -- a group takes 4 bytes at least, so a frame has no more groups than bytes
 unfoldable pub reading : List ℕ → Reading
 reading d = readFrom (suc (length d)) d 0
+
+-- ---- what a frame says, without places
+
+-- a group's PGN and its data
+pub record Content : Type 0 where
+  pub pgn : ℕ
+  pub bytes : List ℕ
+
+abbrev pub contentOf : List ℕ → Group → Content
+contentOf d g = record { pgn = g .pgn; bytes = take (g .len) (drop (g .start) d) }
+
+abbrev pub contents : List ℕ → List Group → List Content
+contents d gs = map (contentOf d) gs
