@@ -36,6 +36,19 @@ dataLength d at = getD d (at + 3) 0
 abbrev pub groupAt : List ℕ → ℕ → Group
 groupAt d at = record { pgn = pgnAt d at; start = at + 4; len = dataLength d at }
 
+-- the same by the bytes themselves
+abbrev pub pgnOf : ℕ → ℕ → ℕ → ℕ
+pgnOf first second third = 65536 * (first % 4) + 256 * second + third
+
+-- the last four tests of a place, by the numbers of its header
+abbrev pub headed : ℕ → ℕ → ℕ → ℕ → ℕ → Step
+headed first pgn len start room =
+    cond (not (eqb (first / 32) 2)) (step.Fault ServiceType)
+    (cond (not (eqb (first / 4 % 8) 0)) (step.Fault TrailerFormat)
+    (cond (not (lowByteOk pgn)) (step.Fault PgnForm)
+    (cond (ltb room len) (step.Fault DataCut)
+    (step.At (record { pgn = pgn; start = start; len = len })))))
+
 -- what stands at a place, in 01's order: end, 4, 6, 7, 8, 5
 abbrev pub stepAt : List ℕ → ℕ → Step
 stepAt d at =
@@ -73,6 +86,36 @@ readFrom (suc n) d at = onStep (stepAt d at) (λ g. readFrom n d (g .start + g .
 -- a group takes 4 bytes at least, so a frame has no more groups than bytes
 unfoldable pub reading : List ℕ → Reading
 reading d = readFrom (suc (length d)) d 0
+
+abbrev pub judgementOf : Reading → Judgement
+judgementOf (good gs) = judgement.Good
+judgementOf (bad r) = judgement.Refused r
+
+-- a refused frame gives out no group
+abbrev pub groupsIn : Reading → List Group
+groupsIn (good gs) = gs
+groupsIn (bad r) = []
+
+abbrev pub groupsOf : List ℕ → List Group
+groupsOf d = groupsIn (reading d)
+
+-- ---- a reader: the place that it has come to
+
+abbrev pub startAt : ℕ → Judgement → ℕ
+startAt n judgement.Good = 0
+startAt n (judgement.Refused r) = n
+
+-- where a reader begins: at the end, if the frame is refused
+abbrev pub startOf : List ℕ → ℕ
+startOf d = startAt (length d) (judgementOf (reading d))
+
+abbrev pub onNext : Step → Next
+onNext (step.At g) = next.Given g (record { at = g .start + g .len })
+onNext step.End = next.End
+onNext (step.Fault r) = next.End
+
+abbrev pub nextAt : List ℕ → ℕ → Next
+nextAt d at = onNext (stepAt d at)
 
 -- ---- what a frame says, without places
 

@@ -1,4 +1,6 @@
 // Groups in one Multi-PG frame (01, "Groups in one frame").
+pub mod read;
+
 use frame::refusal::Refusal;
 
 // A group that stands in a frame: its PGN, and where its data starts and how long it is.
