@@ -1,6 +1,6 @@
 -- What a Multi-PG frame says: 01, "Groups in one frame".
 use Prim.Native.Nat.{ℕ, zero, suc, _+_, _-_, _*_, _/_, _%_}
-use mathlib.Core.Bool.{Bool, cond, not}
+use mathlib.Core.Bool.{Bool, cond, not, _&&_}
 use mathlib.Core.List.{List, [], _∷_, map}
 use lib.Dec.{eqb, leb, ltb}
 use lib.ListN.{length, getD, take, drop}
@@ -48,6 +48,10 @@ headed first pgn len start room =
     (cond (not (lowByteOk pgn)) (step.Fault PgnForm)
     (cond (ltb room len) (step.Fault DataCut)
     (step.At (record { pgn = pgn; start = start; len = len })))))
+
+-- none of those tests refuses: TOS 2 and TF 0 are 16 in the first byte's top six bits
+abbrev pub plainHead : ℕ → ℕ → ℕ → ℕ → Bool
+plainHead first pgn len room = eqb (first / 4) 16 && lowByteOk pgn && leb len room
 
 -- what stands at a place, in 01's order: end, 4, 6, 7, 8, 5
 abbrev pub stepAt : List ℕ → ℕ → Step

@@ -6,8 +6,8 @@ use mathlib.Core.Bool.{Bool, true, false, cond, not, false≢true}
 use mathlib.Core.List.{List, [], _∷_}
 use lib.Dec.{eqb, leb, ltb}
 use lib.ListN.{length, getD}
-use borrow.Author.Tests.{eq-eqb, ne-eqb, lt-leb, le-ltb, leb-false, ltb-false, eqb-true, not-false}
-use Rattle.laws.specs.Choice.{else}
+use borrow.Author.Tests.{eq-eqb, ne-eqb, le-leb, lt-leb, le-ltb, leb-true, leb-false, ltb-false, eqb-true, not-false}
+use Rattle.laws.specs.Choice.{else, each-of, all-of}
 use Rattle.frame.specs.Pgn.{lowByteOk}
 use Rattle.frame.specs.declared.refusal.Refusal.{Refusal}
 use Rattle.multi_pg.specs.declared.Group.{Group}
@@ -15,7 +15,7 @@ use Rattle.multi_pg.specs.declared.Step.{Step}
 use Rattle.multi_pg.specs.declared.Step.the-variants as step
 use Rattle.multi_pg.specs.declared.Judgement.the-variants as judgement
 use Rattle.multi_pg.specs.declared.Next.the-variants as next
-use Rattle.multi_pg.specs.Groups.{tos, tf, pgnAt, dataLength, groupAt, stepAt, Reading, good, bad, after, onStep, readFrom, reading, judgementOf, nextAt, onNext}
+use Rattle.multi_pg.specs.Groups.{tos, tf, pgnAt, dataLength, groupAt, plainHead, stepAt, Reading, good, bad, after, onStep, readFrom, reading, judgementOf, nextAt, onNext}
 
 -- ---- a place
 
@@ -129,3 +129,43 @@ module _ (d : List ℕ) (at : ℕ) where
   -- a group met changes nothing of the judgement
   pub judged-on : (g : Group) → stepAt d at ≡ step.At g → judgementOf (readOn d at) ≡ judgementOf (readOn d (g .start + g .len))
   judged-on g e = ap judgementOf (read-group g e) ∙ judged-after g (readOn d (g .start + g .len))
+
+-- ---- a reader's step
+
+module _ (d : List ℕ) (at : ℕ) where
+  pub next-given : Plain d at → nextAt d at ≡ next.Given (groupAt d at) (record { at = at + 4 + dataLength d at })
+  next-given p = ap onNext (plain-step d at p)
+
+  next-by : (s : Step) → stepAt d at ≡ s → (Plain d at → ⊥) → onNext s ≡ next.End
+  next-by (step.At g) e n = absurd (n (step-plain d at g e .0))
+  next-by step.End e n = refl
+  next-by (step.Fault r) e n = refl
+
+  pub next-none : (Plain d at → ⊥) → nextAt d at ≡ next.End
+  next-none n = next-by (stepAt d at) refl n
+
+  -- one test in the place of four
+  abbrev pub plainHere : Bool
+  plainHere = plainHead (getD d at 0) (pgnAt d at) (dataLength d at) (length d - at - 4)
+
+  pub head-plain : at + 4 ≤ length d → plainHere ≡ true → Plain d at
+  head-plain h e =
+      let (a, (b, (c, _))) = each-of (eqb (getD d at 0 / 4) 16 ∷ lowByteOk (pgnAt d at) ∷ leb (dataLength d at) (length d - at - 4) ∷ []) e in
+      let f : getD d at 0 / 4 ≡ 16 = eqb-true _ _ a in
+      let l : dataLength d at ≤ length d - at - 4 = leb-true _ _ c in
+      record { whole = omega arith; service = omega arith; trailer = omega arith; form = b }
+
+  pub plain-head : Plain d at → plainHere ≡ true
+  plain-head p =
+      let w : at + 4 + dataLength d at ≤ length d = p .whole in
+      let s : getD d at 0 / 32 ≡ 2 = p .service in
+      let t : getD d at 0 / 4 % 8 ≡ 0 = p .trailer in
+      all-of (eqb (getD d at 0 / 4) 16 ∷ lowByteOk (pgnAt d at) ∷ leb (dataLength d at) (length d - at - 4) ∷ [])
+      (eq-eqb (getD d at 0 / 4) 16 (omega arith), (p .form, (le-leb (dataLength d at) (length d - at - 4) (omega arith), tt)))
+
+  pub head-none : plainHere ≡ false → nextAt d at ≡ next.End
+  head-none e = next-none (λ p. false≢true (sym e ∙ plain-head p))
+
+  -- fewer than 4 bytes are left
+  pub short-none : length d < at + 4 → nextAt d at ≡ next.End
+  short-none h = next-none (λ p. let w : at + 4 + dataLength d at ≤ length d = p .whole in omega arith)

@@ -1,7 +1,7 @@
 // A Multi-PG frame read at a place, and judged whole (01, "Groups in one frame").
 ghost use mathlib.Core.Path.{_≡_};
 ghost use Prim.Native.Nat.{_<_};
-ghost use Rattle.multi_pg.specs.Groups.{pgnOf, headed, stepAt, judgementOf, reading};
+ghost use Rattle.multi_pg.specs.Groups.{pgnOf, headed, plainHead, stepAt, judgementOf, reading};
 use super::Group;
 use super::Judgement;
 use super::Step;
@@ -9,7 +9,7 @@ use frame::octet::wide;
 use frame::refusal::Refusal;
 
 // A header's PGN: two bits of its first byte, then the second and the third.
-fn pgn_of(first: u8, second: u8, third: u8) -> u32
+pub fn pgn_of(first: u8, second: u8, third: u8) -> u32
     ensures { λ r. ⌜ r ≡ pgnOf first second third ⌝ }
 {
     65536 * (wide(first) % 4) + 256 * wide(second) + wide(third)
@@ -32,6 +32,13 @@ fn headed_by(first: u8, pgn: u32, len: usize, start: usize, room: usize) -> Step
         return Step::Fault(Refusal::DataCut);
     }
     Step::At(Group { pgn, start, len })
+}
+
+// The same four tests at once, where a reader needs no refusal.
+pub fn is_plain(first: u8, pgn: u32, len: usize, room: usize) -> bool
+    ensures { λ r. ⌜ r ≡ plainHead first pgn len room ⌝ }
+{
+    (first / 4 == 16) & ((240 <= pgn / 256 % 256) | (pgn % 256 == 0)) & (len <= room)
 }
 
 // What stands at a place of a frame.
