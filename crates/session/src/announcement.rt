@@ -44,9 +44,7 @@ pub fn bad_numbers(a: Announcement) -> bool
 {
     let kind = a.kind;
     let rts = is_rts(kind);
-    (a.total.0 == 0)
-        | (a.segments.0 as u64 != (a.total.0 as u64 + 59) / 60)
-        | (rts & (a.max == 0))
+    (a.total.0 == 0) | (a.segments.0 as u64 != (a.total.0 as u64 + 59) / 60) | (rts & (a.max == 0))
 }
 
 // The numbers judged: 11, 12, 13, 8.

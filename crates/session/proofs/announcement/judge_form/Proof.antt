@@ -23,14 +23,14 @@ returns c = then _ _ _ _ (sym (c .before .bad-numbers .ensures) ∙ c .if1 .take
 -- src/announcement.rt:60:9
 returns-2 : tie.Need-returns-2
 unfolding formOf
-returns-2 c = 
+returns-2 c =
     else _ _ _ _ (sym (c .before .before .before .bad-numbers .ensures) ∙ c .before .before .if1 .left)
     (then _ _ _ _ (lt-ltb _ _ (c .if2 .taken)) refl)
 
 -- src/announcement.rt:63:9
 returns-3 : tie.Need-returns-3
 unfolding formOf
-returns-3 c = 
+returns-3 c =
     else _ _ _ _ (sym (c .before .before .before .before .before .bad-numbers .ensures) ∙ c .before .before .before .before .if1 .left)
     (else _ _ _ _ (le-ltb _ _ (c .before .before .if2 .left))
     (then _ _ _ _ (ap not (ne-eqb _ _ (c .if3 .taken))) refl))
@@ -42,7 +42,7 @@ is-pgn-requires c κs = search needs
 -- src/announcement.rt:66:9
 returns-4 : tie.Need-returns-4
 unfolding formOf
-returns-4 c = 
+returns-4 c =
     else _ _ _ _ (sym (c .before .before .before .before .before .before .before .bad-numbers .ensures) ∙ c .before .before .before .before .before .before .if1 .left)
     (else _ _ _ _ (le-ltb _ _ (c .before .before .before .before .if2 .left))
     (else _ _ _ _ (ap not (eq-eqb _ _ (c .before .before .if3 .left)))
@@ -51,7 +51,7 @@ returns-4 c =
 -- src/announcement.rt:53:1
 returns-5 : tie.Need-returns-5
 unfolding formOf
-returns-5 c = 
+returns-5 c =
     else _ _ _ _ (sym (c .before .before .before .before .before .before .before .bad-numbers .ensures) ∙ c .before .before .before .before .before .before .if1 .left)
     (else _ _ _ _ (le-ltb _ _ (c .before .before .before .before .if2 .left))
     (else _ _ _ _ (ap not (eq-eqb _ _ (c .before .before .if3 .left)))

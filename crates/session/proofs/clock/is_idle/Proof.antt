@@ -16,7 +16,7 @@ wrapping-sub-u32-requires c κs = search needs
 -- src/clock.rt:6:1
 returns : tie.Need-returns
 unfolding elapsed
-returns c = 
+returns c =
     let a = c .before .args in
     let e : c .wrapping-sub-u32 .result ≡ elapsed (a .mark) (a .reading) = omega arith in
     ap (leb (a .limit)) e

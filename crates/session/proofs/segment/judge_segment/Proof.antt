@@ -19,7 +19,7 @@ returns c = then _ _ _ _ (c .if1 .taken) refl
 -- src/segment.rt:58:9
 returns-2 : tie.Need-returns-2
 unfolding judgedOf
-returns-2 c = 
+returns-2 c =
     else _ _ _ _ (c .before .before .before .before .before .if1 .left)
     (then _ _ _ _ (c .if2 .taken) refl)
 
@@ -34,7 +34,7 @@ cast-if3 c = search needs
 -- src/segment.rt:61:9
 returns-3 : tie.Need-returns-3
 unfolding judgedOf
-returns-3 c = 
+returns-3 c =
     else _ _ _ _ (c .before .before .before .before .before .before .before .if1 .left)
     (else _ _ _ _ (c .before .before .if2 .left)
     (then _ _ _ _ (ap (ltb (c .before .before .before .before .before .before .before .before .before .before .before .args .room)) (sym (c .before .due .ensures)) ∙ lt-ltb _ _ (c .if3 .taken)) refl))
@@ -42,7 +42,7 @@ returns-3 c =
 -- src/segment.rt:51:1
 returns-4 : tie.Need-returns-4
 unfolding judgedOf
-returns-4 c = 
+returns-4 c =
     else _ _ _ _ (c .before .before .before .before .before .before .before .if1 .left)
     (else _ _ _ _ (c .before .before .if2 .left)
     (else _ _ _ _ (ap (ltb (c .before .before .before .before .before .before .before .before .before .before .before .args .room)) (sym (c .before .due .ensures)) ∙ le-ltb _ _ (c .if3 .left)) refl))

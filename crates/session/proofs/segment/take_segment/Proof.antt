@@ -1,7 +1,8 @@
 use mathlib.Core.Path.{refl, sym, ap, _∙_}
 use Rattle.laws.specs.Choice.{then, else}
 use Rattle.session.specs.declared.segment.Judged.{Judged}
-use Rattle.session.specs.Segments.{stepOf, onSegment}
+use Rattle.session.specs.declared.segment.Step.the-variants as step
+use Rattle.session.specs.Segments.{stepOf, onSegment, takenBy}
 use borrow.Author.Needs.{needs}
 use Rattle.session.proofs.segment.take_segment.Statement.{statement}
 use Rattle.session.proofs.segment.take_segment.Tie as tie
@@ -43,22 +44,26 @@ next-cts-requires c κs = search needs
 -- src/segment.rt:142:17
 returns : tie.Need-returns
 unfolding stepOf
-returns c = search needs
+returns c =
+    then _ _ _ _ (sym (c .before .before .is-cts-due .ensures) ∙ c .before .if1 .taken) (cc)
+    ∙ ap (λ (j : Judged). onSegment j (c .before .before .before .before .before .before .before .args .s) (c .before .before .before .before .before .before .before .args .n .0) (c .before .before .before .before .before .before .before .args .last)) (sym (c .before .before .before .before .enum-told .given .1) ∙ c .before .before .before .before .before .before .judge-segment .ensures)
 
 -- src/segment.rt:132:1
 returns-2 : tie.Need-returns-2
 unfolding stepOf
-returns-2 c = search needs
+returns-2 c = ap (λ (j : Judged). onSegment j (c .before .before .before .before .args .s) (c .before .before .before .before .args .n .0) (c .before .before .before .before .args .last)) (sym (c .before .x .given .1) ∙ c .before .before .before .judge-segment .ensures)
 
 -- src/segment.rt:132:1
 returns-3 : tie.Need-returns-3
 unfolding stepOf
-returns-3 c = search needs
+returns-3 c = ap (λ (j : Judged). onSegment j (c .before .before .before .before .args .s) (c .before .before .before .before .args .n .0) (c .before .before .before .before .args .last)) (sym (c .before .x2 .given .1) ∙ c .before .before .before .judge-segment .ensures)
 
 -- src/segment.rt:132:1
 returns-4 : tie.Need-returns-4
 unfolding stepOf
-returns-4 c = search needs
+returns-4 c =
+    else _ _ _ _ (sym (c .before .is-cts-due .ensures) ∙ c .if1 .left) (ap step.Taken (c .before .before .advance .ensures))
+    ∙ ap (λ (j : Judged). onSegment j (c .before .before .before .before .before .before .args .s) (c .before .before .before .before .before .before .args .n .0) (c .before .before .before .before .before .before .args .last)) (sym (c .before .before .before .enum-told .given .1) ∙ c .before .before .before .before .before .judge-segment .ensures)
 
 pub take-segment-spec : {M : Type 1} → statement M
 take-segment-spec =
