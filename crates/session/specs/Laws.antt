@@ -221,7 +221,7 @@ opened-progress k a last e =
 
 -- ---- a segment that is taken
 
-pub record Taken (s : Session) (n room : ℕ) : Type 0 where
+pub record InTurn (s : Session) (n room : ℕ) : Type 0 where
   pub next : n ≡ s .next .0
   pub low : 1 ≤ n
   pub high : n ≤ s .segments .0
@@ -233,9 +233,9 @@ refused≢takes x e = let z : _≡_ {A = ℕ} 0 1 = cc in omega arith
 ends≢takes : (x : Refusal) → Ends x ≡ Takes → ⊥
 ends≢takes x e = let z : _≡_ {A = ℕ} 0 1 = cc in omega arith
 
-pub taken : (s : Session) (n room : ℕ) → judgedOf s n room ≡ Takes → Taken s n room
+pub takes-in-turn : (s : Session) (n room : ℕ) → judgedOf s n room ≡ Takes → InTurn s n room
 unfolding judgedOf
-taken s n room e =
+takes-in-turn s n room e =
     let p₁ = passed (eqb n 0 || ltb n (s .next .0)) _ _ _ (refused≢takes _) e in
     let p₂ = passed (ltb (s .next .0) n || ltb (s .segments .0) n) _ _ _ (ends≢takes _) (p₁ .1) in
     let p₃ = passed (ltb room (dueOf (s .total .0) n)) _ _ _ (refused≢takes _) (p₂ .1) in
@@ -256,10 +256,10 @@ advanced-agreed s n last a = a
 
 pub advanced-progress : (s : Session) (n room last : ℕ) → AgreedIn s → Progress s → judgedOf s n room ≡ Takes → Progress (advancedBy s n last)
 advanced-progress s n room last a p e =
-    let t = taken s n room e in
+    let t = takes-in-turn s n room e in
     record { low = omega arith; high = omega arith; ahead = λ r. by (isRts (s .kind)) r t (p .ahead r) (a .grants r) }
   where
-    by : (rts : Bool) → rts ≡ true → Taken s n room → Ahead (s .next .0) (s .granted .0) (s .segments .0) → 1 ≤ s .max
+    by : (rts : Bool) → rts ≡ true → InTurn s n room → Ahead (s .next .0) (s .granted .0) (s .segments .0) → 1 ≤ s .max
         → Ahead (n + 1) (cond (rts && eqb n (s .granted .0) && ltb n (s .segments .0)) (n + grantOf (s .max) (s .segments .0 - n)) (s .granted .0)) (s .segments .0)
     by true r t (inl w) m = grant-next n (s .granted .0) (s .segments .0) (s .max) m (t .high) (omega arith) (w .1)
     by true r t (inr w) m = absurd (omega arith)
@@ -293,5 +293,5 @@ due-most total n = omega arith
 -- the data of a segment that is taken lies in the message, and so in a slot
 pub taken-inside : (s : Session) (n room : ℕ) → AgreedIn s → judgedOf s n room ≡ Takes → 60 * (n - 1) + dueOf (s .total .0) n ≤ s .total .0
 taken-inside s n room a e =
-    let t = taken s n room e in
+    let t = takes-in-turn s n room e in
     segment-inside (s .total .0) n (t .low) (omega arith)

@@ -62,6 +62,11 @@ pub P11 : formOf (rtsOf 4097 69) ≡ Bad TooLong
 unfolding formOf
 P11 = refl
 
+-- a wrong segment count is found before the length
+pub count-first : formOf (rtsOf 4097 68) ≡ Bad AnnouncementForm
+unfolding formOf
+count-first = refl
+
 pub P12 : (isIdle 1250 4294967290 1243 ≡ false) × (isIdle 1250 4294967290 1244 ≡ true)
 unfolding elapsed
 P12 = (refl, refl)

@@ -39,7 +39,7 @@ pub fn is_misdirected(da: Address, kind: Kind) -> bool
 }
 
 // Whether Total Bytes, segments and MAX SGMTS do not agree; in 64 bits, where no sum wraps.
-pub fn bad_numbers(a: Announcement) -> bool
+fn bad_numbers(a: Announcement) -> bool
     ensures { λ r. ⌜ r ≡ badNumbers a ⌝ }
 {
     let kind = a.kind;
@@ -67,7 +67,7 @@ pub fn judge_form(a: Announcement) -> Form
 }
 
 // The last segment of the first grant; 0 for a BAM.
-pub fn first_granted(a: Announcement) -> u32
+fn first_granted(a: Announcement) -> u32
     ensures { λ r. ⌜ r ≡ firstGranted a ⌝ }
 {
     let kind = a.kind;

@@ -33,7 +33,7 @@ pub enum Step {
 }
 
 // a less b, or 0 where b is more.
-pub fn minus(a: u64, b: u64) -> u64
+fn minus(a: u64, b: u64) -> u64
     ensures { λ r. ⌜ r ≡ a - b ⌝ }
 {
     if a <= b { 0 } else { a - b }
@@ -72,7 +72,7 @@ pub fn is_cts_due(s: Session, n: SegmentNumber) -> bool
 }
 
 // The count of the next CTS.
-pub fn next_count(s: Session, n: SegmentNumber) -> u8
+fn next_count(s: Session, n: SegmentNumber) -> u8
     ensures { λ r. ⌜ r ≡ nextCount s (n .0) ⌝ }
 {
     grant(s.max, minus(s.segments.0 as u64, n.0 as u64) as u32)
@@ -85,16 +85,17 @@ pub fn next_cts(s: Session, n: SegmentNumber) -> Cts
 {
     let key = s.key;
     let count = next_count(s, n);
+    let first = n.0 + 1;
     Cts {
         key: key,
-        next: SegmentNumber(n.0 + 1),
+        next: SegmentNumber(first),
         count: count,
         pgn: s.pgn,
     }
 }
 
 // The last granted segment after segment n.
-pub fn granted_after(s: Session, n: SegmentNumber) -> u32
+fn granted_after(s: Session, n: SegmentNumber) -> u32
     requires { ⌜ n .0 < 16777216 ⌝ }
     ensures { λ r. ⌜ r ≡ grantedBy s (n .0) ⌝ }
 {

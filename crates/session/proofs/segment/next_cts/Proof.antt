@@ -10,12 +10,12 @@ next-count-requires : tie.Need-next-count-requires
 next-count-requires c κs = search needs
 
 -- src/segment.rt:89:29
-add-t5 : tie.Need-add-t5
-add-t5 c = search needs
+add-first : tie.Need-add-first
+add-first c = search needs
 
 -- src/segment.rt:81:1
 returns : tie.Need-returns
 returns c = rw (c .before .next-count .ensures)
 
 pub next-cts-spec : {M : Type 1} → statement M
-next-cts-spec = tie.close (tie.spec next-count-requires add-t5 returns)
+next-cts-spec = tie.close (tie.spec next-count-requires add-first returns)
