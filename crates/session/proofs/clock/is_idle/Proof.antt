@@ -5,15 +5,10 @@ use Rattle.session.specs.Ends.{elapsed}
 use borrow.Author.Needs.{needs}
 use Rattle.session.proofs.clock.is_idle.Statement.{statement}
 use Rattle.session.proofs.clock.is_idle.Tie as tie
-use Rattle.session.proofs.clock.is_idle.Reads as reads
-use Rattle.session.proofs.clock.is_idle.Lts as lts
-use Rattle.std.proofs.num.wrapping_sub_u32.Reads as wrapping-sub-u32-reads
 
--- src/clock.rt:9:14
 wrapping-sub-u32-requires : tie.Need-wrapping-sub-u32-requires
 wrapping-sub-u32-requires c κs = search needs
 
--- src/clock.rt:6:1
 returns : tie.Need-returns
 unfolding elapsed
 returns c =
