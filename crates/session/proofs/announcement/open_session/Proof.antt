@@ -1,0 +1,12 @@
+use borrow.Author.Needs.{needs}
+use Rattle.session.proofs.announcement.open_session.Statement.{statement}
+use Rattle.session.proofs.announcement.open_session.Tie as tie
+
+first-granted-requires : tie.Need-first-granted-requires
+first-granted-requires c κs = search needs
+
+returns : tie.Need-returns
+returns c = rw (c .before .before .first-granted .ensures)
+
+pub open-session-spec : {M : Type 1} → statement M
+open-session-spec = tie.close (tie.spec first-granted-requires returns)
