@@ -1,12 +1,12 @@
 -- The least length that holds a need, and that the test for a length is membership of the list of lengths.
-use Prim.Native.Nat.{ℕ, zero, suc, _+_, _≤_, _<_}
+use Prim.Native.Nat.{ℕ, zero, suc, _≤_, _<_}
 use native.Mathlib.Omega.{arith}
-use native.Mathlib.Decide.{decLe}
-use mathlib.Core.Path.{_≡_, refl, sym, ap, _∙_}
+use mathlib.Core.Path.{_≡_, refl, sym}
 use mathlib.Core.Bool.{Bool, true, false, cond, _&&_, _||_, false≢true}
 use mathlib.Core.List.{List, [], _∷_}
 use lib.Dec.{eqb, leb}
 use borrow.Author.Tests.{eqb-true, leb-true, leb-false, eq-eqb, ne-eqb, lt-leb}
+use Rattle.laws.specs.Choice.{or-stop, each-of}
 use Rattle.frame.specs.Lengths.{lengths, isLength, firstHolding, leastLength}
 use Rattle.frame.specs.declared.length.Least.{Least}
 use Rattle.frame.specs.declared.length.Least.the-variants.{Length, Nothing}
@@ -30,24 +30,16 @@ or-cases : {X : Type 0} (a b : Bool) → (a || b) ≡ true → (a ≡ true → X
 or-cases true b e f g = f refl
 or-cases false b e f g = g e
 
-or-left : (a b : Bool) → a ≡ true → (a || b) ≡ true
-or-left true b e = refl
-or-left false b e = absurd (false≢true e)
-
 or-right : (a b : Bool) → b ≡ true → (a || b) ≡ true
 or-right true b e = refl
 or-right false b e = e
 
-pub and-both : (a b : Bool) → (a && b) ≡ true → (a ≡ true) × (b ≡ true)
-and-both true b e = (refl, e)
-and-both false b e = absurd (false≢true e)
-
 rising-low : (lo : ℕ) (ns : List ℕ) (m : ℕ) → rising lo ns ≡ true → among m ns ≡ true → lo ≤ m
 rising-low lo [] m r a = absurd (false≢true a)
 rising-low lo (n ∷ ns) m r a =
-    let b = and-both (leb lo n) (rising n ns) r in
+    let b = each-of (leb lo n ∷ rising n ns ∷ []) r in
     let h : lo ≤ n = leb-true lo n (b .0) in
-    or-cases (eqb m n) (among m ns) a (λ e. let q : m ≡ n = eqb-true m n e in omega arith) (λ e. let q : n ≤ m = rising-low n ns m (b .1) e in omega arith)
+    or-cases (eqb m n) (among m ns) a (λ e. let q : m ≡ n = eqb-true m n e in omega arith) (λ e. let q : n ≤ m = rising-low n ns m (b .1 .0) e in omega arith)
 
 none-here : (n : ℕ) → _≡_ {A = Least} Nothing (Length n) → ⊥
 none-here n e = let z : _≡_ {A = ℕ} 0 1 = cc in omega arith
@@ -55,14 +47,14 @@ none-here n e = let z : _≡_ {A = ℕ} 0 1 = cc in omega arith
 -- of a rising list, the first that holds the need is the least
 pub first-least : (lo need : ℕ) (ns : List ℕ) (n : ℕ) → rising lo ns ≡ true → firstHolding need ns ≡ Length n → LeastOf ns need n
 first-least lo need [] n r e = absurd (none-here n e)
-first-least lo need (x ∷ xs) n r e = go (leb need x) refl e (λ f. first-least x need xs n (and-both (leb lo x) (rising x xs) r .1) f) where
+first-least lo need (x ∷ xs) n r e = go (leb need x) refl e (λ f. first-least x need xs n (each-of (leb lo x ∷ rising x xs ∷ []) r .1 .0) f) where
   go : (t : Bool) → leb need x ≡ t → cond t (Length x) (firstHolding need xs) ≡ Length n → (firstHolding need xs ≡ Length n → LeastOf xs need n) → LeastOf (x ∷ xs) need n
   go true k f next =
       let q : x ≡ n = cc in
       record {
         holds = omega (arith, leb-true need x k);
-        member = or-left (eqb n x) (among n xs) (eq-eqb n x (sym q));
-        least = λ m a h. or-cases (eqb m x) (among m xs) a (λ z. omega (arith, eqb-true m x z)) (λ z. omega (arith, rising-low x xs m (and-both (leb lo x) (rising x xs) r .1) z));
+        member = sym (or-stop (eqb n x) (among n xs) (eq-eqb n x (sym q)));
+        least = λ m a h. or-cases (eqb m x) (among m xs) a (λ z. omega (arith, eqb-true m x z)) (λ z. omega (arith, rising-low x xs m (each-of (leb lo x ∷ rising x xs ∷ []) r .1 .0) z));
       }
   go false k f next =
       let l : LeastOf xs need n = next f in

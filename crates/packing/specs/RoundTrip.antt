@@ -4,13 +4,13 @@ use Prim.Native.Nat.{ℕ, zero, suc, _+_, _-_, _*_, _/_, _%_, _≤_, _<_}
 use native.Mathlib.Omega.{arith}
 use native.Mathlib.Nat.{add-zero}
 use mathlib.Core.Path.{_≡_, refl, sym, ap, subst, _∙_}
-use mathlib.Core.Bool.{Bool, true, false, cond, not, _&&_}
+use mathlib.Core.Bool.{Bool, true, false, cond, not}
 use mathlib.Core.List.{List, [], _∷_, _++_, map, append-assoc}
 use lib.Dec.{eqb, leb, ltb}
 use lib.ListN.{length, getD, take, drop, length-append, length-drop, take-append-drop}
 use lib.Seq.{getD-append-add, drop-append-add, length-take-le, take-at, take-all, drop-at}
 use borrow.Author.Tests.{eq-eqb, ltb-true}
-use Rattle.laws.specs.Choice.{then, else}
+use Rattle.laws.specs.Choice.{then, each-of}
 use Rattle.frame.specs.Lengths.{lengths as Lengths, isLength}
 use Rattle.frame.specs.Pgn.{pgnOk, lowByteOk}
 use Rattle.frame.specs.declared.refusal.Refusal.{Refusal}
@@ -18,13 +18,13 @@ use Rattle.frame.specs.declared.refusal.Refusal.the-variants.{PgnForm, PackRequ
 use Rattle.multi_pg.specs.declared.Group.{Group}
 use Rattle.multi_pg.specs.declared.Step.{Step}
 use Rattle.multi_pg.specs.declared.Step.the-variants as step
-use Rattle.multi_pg.specs.Groups.{tos, tf, pgnAt, dataLength, groupAt, stepAt, Reading, good, reading, Content, contentOf, contents}
+use Rattle.multi_pg.specs.Groups.{tos, pgnAt, dataLength, groupAt, stepAt, Content, contentOf, contents}
 use Rattle.multi_pg.specs.Places.{Plain}
 use Rattle.multi_pg.specs.Reader.{Chain, last, link, chain-good}
-use Rattle.multi_pg.specs.Table.{Shown, groups, shownBy, shown}
+use Rattle.multi_pg.specs.Table.{groups, shownBy, shown}
 use Rattle.packing.specs.declared.Packed.{Packed}
 use Rattle.packing.specs.declared.Packed.the-variants.{Frame, Refused}
-use Rattle.packing.specs.LengthLaws.{and-both, LeastOf, is-among}
+use Rattle.packing.specs.LengthLaws.{LeastOf, is-among}
 use Rattle.packing.specs.Packing.{headerOf, body, padding, sum, needed, frameLength, pgnsOk, requestFits, frameOf, packed}
 use Rattle.packing.specs.Shapes.{Met, request-met, padding-at, frame-least, length-frame}
 
@@ -96,7 +96,7 @@ module _ (p n : ℕ) (pre X F : List ℕ) (at : ℕ) (eF : F ≡ pre ++ (headerO
       ap (λ (x : ℕ). 65536 * (x % 4) + 256 * getD F (at + 1) 0 + getD F (at + 2) 0) first
       ∙ ap (λ (x : ℕ). 65536 * ((64 + p / 65536 % 4) % 4) + 256 * x + getD F (at + 2) 0) (header-at 1)
       ∙ ap (λ (x : ℕ). 65536 * ((64 + p / 65536 % 4) % 4) + 256 * (p / 256 % 256) + x) (header-at 2)
-      ∙ pgn-whole p (ltb-true p 262144 (and-both (ltb p 262144) (lowByteOk p) ok .0))
+      ∙ pgn-whole p (ltb-true p 262144 (each-of (ltb p 262144 ∷ lowByteOk p ∷ []) ok .0))
 
   whole-at : length F ≡ at + 4 + length X
   whole-at = ap length eF ∙ length-append pre (headerOf p n ++ X) ∙ omega arith
@@ -107,7 +107,7 @@ module _ (p n : ℕ) (pre X F : List ℕ) (at : ℕ) (eF : F ≡ pre ++ (headerO
         whole = omega (arith, len-at, whole-at);
         service = omega (arith, first);
         trailer = omega (arith, first);
-        form = ap lowByteOk pgn-at ∙ and-both (ltb p 262144) (lowByteOk p) ok .1;
+        form = ap lowByteOk pgn-at ∙ each-of (ltb p 262144 ∷ lowByteOk p ∷ []) ok .1 .0;
       }
 
   content-at : contentOf F (groupAt F at) ≡ record { pgn = p; bytes = take n X }
@@ -136,7 +136,7 @@ unfolding body
 told [] ns d tail pre F at eF ea ok even whole z = record { gs = []; chain = last (told-end tail pre F at eF ea z); same = refl }
 told (p ∷ ps) [] d tail pre F at eF ea ok even whole z = absurd (omega arith)
 told (p ∷ ps) (n ∷ ns) d tail pre F at eF ea ok even whole z =
-    let oks = and-both (pgnOk p) (pgnsOk ps) ok in
+    let oks = each-of (pgnOk p ∷ pgnsOk ps ∷ []) ok in
     let T : List ℕ = take n d in
     let B : List ℕ = body ps ns (drop n d) in
     let X : List ℕ = T ++ (B ++ tail) in
@@ -146,7 +146,7 @@ told (p ∷ ps) (n ∷ ns) d tail pre F at eF ea ok even whole z =
     let eP : F ≡ (pre ++ (headerOf p n ++ T)) ++ (B ++ tail) = eX ∙ sym (append-assoc pre (headerOf p n ++ T) (B ++ tail)) in
     let eA : at + 4 + dataLength F at ≡ length (pre ++ (headerOf p n ++ T)) = omega (arith, len-at p n pre X F at eX ea (oks .0), length-append pre (headerOf p n ++ T)) in
     let rest : Told F (at + 4 + dataLength F at) (requested ps ns (drop n d)) =
-    told ps ns (drop n d) tail (pre ++ (headerOf p n ++ T)) F (at + 4 + dataLength F at) eP eA (oks .1) (omega arith) (simp length-drop (omega arith)) z in
+    told ps ns (drop n d) tail (pre ++ (headerOf p n ++ T)) F (at + 4 + dataLength F at) eP eA (oks .1 .0) (omega arith) (simp length-drop (omega arith)) z in
     record {
       gs = groupAt F at ∷ rest .gs;
       chain = link (plain-at p n pre X F at eX ea (oks .0) lX) (rest .chain);

@@ -1,21 +1,21 @@
 -- The length of what the packer writes, and its bytes one at a time.
-use Prim.Native.Nat.{ℕ, zero, suc, _+_, _-_, _*_, _≤_, _<_, min}
+use Prim.Native.Nat.{ℕ, _+_, _-_, _≤_, _<_, min}
 use native.Mathlib.Numerals.{add-one}
 use native.Mathlib.Omega.{arith}
 use native.Mathlib.Decide.{decLe, decLt}
 use mathlib.Core.Path.{_≡_, refl, sym, ap, _∙_}
 use mathlib.Core.List.{List, [], _∷_, _++_}
-use mathlib.Core.Bool.{Bool, true, _&&_}
+use mathlib.Core.Bool.{true, _&&_}
 use lib.Dec.{eqb, leb, ltb}
-use lib.ListN.{length, getD, set, take, drop, replicate, length-append, length-take, length-drop, length-replicate, getD-replicate, List·getD-append}
+use lib.ListN.{length, getD, set, take, drop, replicate, length-append, length-drop, length-replicate, getD-replicate, List·getD-append}
 use lib.Seq.{paste, paste-suc, getD-append-add, length-take-le, take-at, take-all, drop-at, drop-drop}
 use borrow.Author.Tests.{lt-ltb, le-ltb, le-leb, lt-leb, leb-true, eqb-true}
-use Rattle.laws.specs.Choice.{then, else}
+use Rattle.laws.specs.Choice.{then, else, each-of}
 use Rattle.frame.specs.Lengths.{lengths, leastLength}
 use Rattle.frame.specs.declared.length.Least.{Least}
 use Rattle.frame.specs.declared.length.Least.the-variants.{Length, Nothing}
-use Rattle.packing.specs.LengthLaws.{and-both, LeastOf, least-length, length-found}
-use Rattle.packing.specs.Packing.{headerOf, body, padding, padByte, sum, needed, capped, holding, frameLength, requestFits, frameOf}
+use Rattle.packing.specs.LengthLaws.{LeastOf, least-length, length-found}
+use Rattle.packing.specs.Packing.{body, padding, padByte, sum, needed, capped, holding, frameLength, requestFits, frameOf}
 
 pub length-body : (ps ns d : List ℕ) → length ps ≡ length ns → length d ≡ sum ns → length (body ps ns d) ≡ needed ns
 unfolding body
@@ -78,14 +78,13 @@ pub record Met (ps ns d : List ℕ) (out : ℕ) : Type 0 where
 pub request-met : (ps ns d : List ℕ) (out : ℕ) → requestFits ps ns d out ≡ true → Met ps ns d out
 unfolding requestFits
 request-met ps ns d out e =
-    let a = and-both (leb (needed ns) 64) (eqb (length ps) (length ns) && eqb (length d) (sum ns) && eqb out 64) e in
-    let b = and-both (eqb (length ps) (length ns) && eqb (length d) (sum ns)) (eqb out 64) (a .1) in
-    let c = and-both (eqb (length ps) (length ns)) (eqb (length d) (sum ns)) (b .0) in
+    let (a, (b, _)) = each-of (leb (needed ns) 64 ∷ (eqb (length ps) (length ns) && eqb (length d) (sum ns) && eqb out 64) ∷ []) e in
+    let (f, (g, (h, _))) = each-of (eqb (length ps) (length ns) ∷ eqb (length d) (sum ns) ∷ eqb out 64 ∷ []) b in
     record {
-      small = leb-true (needed ns) 64 (a .0);
-      even = eqb-true (length ps) (length ns) (c .0);
-      whole = eqb-true (length d) (sum ns) (c .1);
-      output = eqb-true out 64 (b .1);
+      small = leb-true (needed ns) 64 a;
+      even = eqb-true (length ps) (length ns) f;
+      whole = eqb-true (length d) (sum ns) g;
+      output = eqb-true out 64 h;
     }
 
 -- ---- a frame's length

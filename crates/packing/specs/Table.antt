@@ -2,7 +2,7 @@
 use Prim.Native.Nat.{ℕ}
 use mathlib.Core.Path.{_≡_, refl}
 use mathlib.Core.List.{List, [], _∷_, _++_}
-use lib.ListN.{drop, replicate}
+use lib.ListN.{replicate}
 use Rattle.frame.specs.declared.refusal.Refusal.the-variants.{PgnForm, PackRequest}
 use Rattle.packing.specs.declared.Packed.the-variants.{Frame, Refused}
 use Rattle.packing.specs.Packing.{body, frameLength, requestFits, packed}

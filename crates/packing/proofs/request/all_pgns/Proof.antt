@@ -1,5 +1,5 @@
 use Prim.Native.Nat.{ℕ, _+_, _-_, _≤_, _<_}
-use mathlib.Core.Path.{_≡_, refl, sym, ap, _∙_}
+use mathlib.Core.Path.{_≡_, refl, sym, _∙_}
 use mathlib.Core.Bool.{true, false}
 use mathlib.Core.List.{List, _∷_}
 use lib.ListN.{length, drop, getD}
@@ -13,9 +13,6 @@ use Rattle.packing.specs.Packing.{pgnsOk}
 use borrow.Author.Needs.{needs}
 use Rattle.packing.proofs.request.all_pgns.Statement.{statement}
 use Rattle.packing.proofs.request.all_pgns.Tie as tie
-use Rattle.packing.proofs.request.all_pgns.Reads as reads
-use Rattle.packing.proofs.request.all_pgns.Lts as lts
-use Rattle.frame.proofs.pgn.is_pgn.Reads as is-pgn-reads
 
 module _ (l : List ℕ) (i : ℕ) (low : i < length l) (inv : pgnsOk (drop i l) ≡ pgnsOk l) where
   at-turn : pgnsOk (getD l i 0 ∷ drop (i + 1) l) ≡ pgnsOk l
@@ -33,39 +30,30 @@ Inv-loop pgns i₀ i = (i ≤ length pgns) × (pgnsOk (drop i pgns) ≡ pgnsOk p
 abbrev μ-loop : tie.MeasureT-loop
 μ-loop pgns i₀ i = length pgns - i
 
--- src/request.rt:14:5
 loop-holds : tie.Need-loop-holds Inv-loop μ-loop
 loop-holds c = search needs
 
--- src/request.rt:15:20
 mul-is-pgn : tie.Need-mul-is-pgn Inv-loop μ-loop
 mul-is-pgn c = search needs
 
--- src/request.rt:15:20
 shared-slice-read-is-pgn : tie.Need-shared-slice-read-is-pgn Inv-loop μ-loop
 shared-slice-read-is-pgn c = search needs
 
--- src/request.rt:15:13
 is-pgn-requires : tie.Need-is-pgn-requires Inv-loop μ-loop
 is-pgn-requires c κs = search needs
 
--- src/request.rt:16:13
 returns : tie.Need-returns Inv-loop μ-loop
 returns c = failed (now (c .before .before .before .before .before .before .args .pgns)) (c .before .before .before .before .loop .i) (omega arith) (c .before .before .before .before .loop .inv .1) (sym (c .before .is-pgn .ensures) ∙ not-true _ (c .if1 .taken))
 
--- src/request.rt:18:13
 add-i : tie.Need-add-i Inv-loop μ-loop
 add-i c = search needs
 
--- src/request.rt:14:5
 loop-less : tie.Need-loop-less Inv-loop μ-loop
 loop-less c = search needs
 
--- src/request.rt:14:5
 loop-again : tie.Need-loop-again Inv-loop μ-loop
 loop-again c = (search needs, passed (now (c .before .before .before .before .before .before .args .pgns)) (c .before .before .before .before .loop .i) (omega arith) (c .before .before .before .before .loop .inv .1) (sym (c .before .is-pgn .ensures) ∙ not-false _ (c .if1 .left)))
 
--- src/request.rt:10:1
 returns-2 : tie.Need-returns-2 Inv-loop μ-loop
 returns-2 c = sym (end pgnsOk (now (c .before .before .before .args .pgns)) (c .before .loop .i) (omega arith)) ∙ c .before .loop .inv .1
 

@@ -1,7 +1,6 @@
-use Prim.Native.Nat.{ℕ, _+_, _-_, _*_, _≤_, _<_}
-use mathlib.Core.Path.{_≡_, refl, sym, ap, _∙_}
-use mathlib.Core.Bool.{Bool, _&&_}
-use mathlib.Core.List.{List, _∷_}
+use Prim.Native.Nat.{ℕ, _-_, _*_, _≤_, _<_}
+use mathlib.Core.Path.{_≡_, ap}
+use mathlib.Core.Bool.{_&&_}
 use lib.Dec.{leb, eqb}
 use lib.ListN.{length}
 use denote.Ref.{now}
@@ -10,13 +9,9 @@ use borrow.Author.Tests.{le-leb, lt-leb}
 use Rattle.packing.specs.Shapes.{capped-within, capped-over}
 use Rattle.laws.specs.Choice.{and-next, and-stop}
 use Rattle.packing.specs.Packing.{needed, sum, capped, requestFits}
-use borrow.Author.Needs.{needs}
 use Rattle.packing.proofs.request.fits.Statement.{statement}
 use Rattle.packing.proofs.request.fits.Tie as tie
-use Rattle.packing.proofs.request.fits.Reads as reads
-use Rattle.packing.proofs.request.fits.Lts as lts
 
--- src/request.rt:52:9
 returns : tie.Need-returns
 unfolding requestFits
 returns c =
@@ -24,19 +19,16 @@ returns c =
     let h : 64 < capped (needed (now (a .lengths))) = omega arith in
     and-stop (leb (needed (now (a .lengths))) 64) _ (lt-leb _ _ (capped-over (needed (now (a .lengths))) h))
 
--- src/request.rt:54:60
 mul-result : tie.Need-mul-result
 mul-result c =
     let h : capped (needed (now (c .before .args .lengths))) ≤ 64 = omega arith in
     omega (arith, capped-within (needed (now (c .before .args .lengths))) h)
 
--- src/request.rt:54:52
 sub-result : tie.Need-sub-result
 sub-result c =
     let h : capped (needed (now (c .before .args .lengths))) ≤ 64 = omega arith in
     omega (arith, capped-within (needed (now (c .before .args .lengths))) h)
 
--- src/request.rt:47:1
 returns-2 : tie.Need-returns-2
 unfolding requestFits
 returns-2 c =

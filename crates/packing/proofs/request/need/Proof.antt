@@ -1,5 +1,5 @@
-use Prim.Native.Nat.{ℕ, _+_, _-_, _*_, _≤_, _<_}
-use mathlib.Core.Path.{_≡_, refl, sym, ap, _∙_}
+use Prim.Native.Nat.{ℕ, _+_, _-_, _≤_, _<_}
+use mathlib.Core.Path.{_≡_, refl}
 use mathlib.Core.List.{List, _∷_}
 use lib.Dec.{leb}
 use lib.ListN.{length, drop, getD}
@@ -12,9 +12,6 @@ use Rattle.packing.specs.Packing.{needed, capped}
 use borrow.Author.Needs.{needs}
 use Rattle.packing.proofs.request.need.Statement.{statement}
 use Rattle.packing.proofs.request.need.Tie as tie
-use Rattle.packing.proofs.request.need.Reads as reads
-use Rattle.packing.proofs.request.need.Lts as lts
-use Rattle.packing.proofs.request.size.Reads as size-reads
 
 module _ (l : List ℕ) (i total : ℕ) where
   whole : length l ≤ i → total + needed (drop i l) ≡ needed l → total ≤ 64 → total ≡ capped (needed l)
@@ -36,43 +33,33 @@ Inv-loop lengths total₀ i₀ total i = (i ≤ length lengths) × (total + need
 abbrev μ-loop : tie.MeasureT-loop
 μ-loop lengths total₀ i₀ total i = length lengths - i
 
--- src/request.rt:36:5
 loop-holds : tie.Need-loop-holds Inv-loop μ-loop
 loop-holds c = search needs
 
--- src/request.rt:37:17
 add-total : tie.Need-add-total Inv-loop μ-loop
 add-total c = search needs
 
--- src/request.rt:37:34
 shared-slice-read-size : tie.Need-shared-slice-read-size Inv-loop μ-loop
 shared-slice-read-size c = search needs
 
--- src/request.rt:37:29
 size-requires : tie.Need-size-requires Inv-loop μ-loop
 size-requires c κs = search needs
 
--- src/request.rt:37:17
 add-total-2 : tie.Need-add-total-2 Inv-loop μ-loop
 add-total-2 c = search needs
 
--- src/request.rt:39:13
 returns : tie.Need-returns Inv-loop μ-loop
 returns c = over (now (c .before .before .before .before .before .before .args .lengths)) (c .before .before .before .before .loop .i) (c .before .before .before .before .loop .total) (omega arith) (c .before .before .before .before .loop .inv .1) (c .before .size .result) (c .before .size .ensures .0) (c .if1 .taken)
 
--- src/request.rt:41:13
 add-i : tie.Need-add-i Inv-loop μ-loop
 add-i c = search needs
 
--- src/request.rt:36:5
 loop-less : tie.Need-loop-less Inv-loop μ-loop
 loop-less c = search needs
 
--- src/request.rt:36:5
 loop-again : tie.Need-loop-again Inv-loop μ-loop
 loop-again c = (search needs, counted (now (c .before .before .before .before .before .before .args .lengths)) (c .before .before .before .before .loop .i) (c .before .before .before .before .loop .total) (omega arith) (c .before .before .before .before .loop .inv .1) (c .before .size .result) (c .before .size .ensures .0), search needs)
 
--- src/request.rt:31:1
 returns-2 : tie.Need-returns-2 Inv-loop μ-loop
 returns-2 c = whole (now (c .before .before .before .args .lengths)) (c .before .loop .i) (c .before .loop .total) (omega arith) (c .before .loop .inv .1) (c .before .loop .inv .2)
 

@@ -1,7 +1,6 @@
-use Prim.Native.Nat.{ℕ, _+_, _-_, _<_, _≤_}
-use mathlib.Core.Path.{_≡_, refl, sym, ap, _∙_}
-use mathlib.Core.List.{List}
-use lib.ListN.{length, set, length-set}
+use Prim.Native.Nat.{ℕ, _-_, _≤_}
+use mathlib.Core.Path.{_≡_, refl, ap, _∙_}
+use lib.ListN.{length, length-set}
 use lib.Seq.{paste, paste-zero}
 use denote.Ref.{now}
 use native.Mathlib.Omega.{arith}
@@ -10,9 +9,6 @@ use Rattle.packing.specs.Shapes.{pad-turn}
 use borrow.Author.Needs.{needs}
 use Rattle.packing.proofs.write.pad.Statement.{statement}
 use Rattle.packing.proofs.write.pad.Tie as tie
-use Rattle.packing.proofs.write.pad.Reads as reads
-use Rattle.packing.proofs.write.pad.Lts as lts
-use Rattle.packing.proofs.write.pad_byte.Reads as pad-byte-reads
 
 abbrev Inv-loop : tie.InvT-loop
 Inv-loop out₀ at gap j₀ out j = (out ≡ paste out₀ at (padding gap) j) × (j ≤ gap) × (length out ≡ length out₀)
@@ -20,40 +16,31 @@ Inv-loop out₀ at gap j₀ out j = (out ≡ paste out₀ at (padding gap) j) ×
 abbrev μ-loop : tie.MeasureT-loop
 μ-loop out₀ at gap j₀ out j = gap - j
 
--- src/write.rt:62:5
 loop-holds : tie.Need-loop-holds Inv-loop μ-loop
 loop-holds c = (paste-zero (now (c .before .args .out)) (c .before .args .at) (padding (c .before .args .gap)), search needs, refl)
 
--- src/write.rt:63:23
 pad-byte-requires : tie.Need-pad-byte-requires Inv-loop μ-loop
 pad-byte-requires c κs = search needs
 
--- src/write.rt:63:13
 add-out : tie.Need-add-out Inv-loop μ-loop
 add-out c = search needs
 
--- src/write.rt:63:9
 slice-write-out : tie.Need-slice-write-out Inv-loop μ-loop
 slice-write-out c = search needs
 
--- src/write.rt:64:13
 add-j : tie.Need-add-j Inv-loop μ-loop
 add-j c = search needs
 
--- src/write.rt:62:5
 loop-less : tie.Need-loop-less Inv-loop μ-loop
 loop-less c = search needs
 
--- src/write.rt:62:5
 loop-again : tie.Need-loop-again Inv-loop μ-loop
 loop-again c = let a = c .before .before .before .before .args in
     (pad-turn (c .before .before .loop .out) (now (a .out)) (a .at) (a .gap) (c .before .before .loop .j) (c .pad-byte .result) (c .before .before .loop .inv .0) (omega arith) (omega arith) (c .pad-byte .ensures), search needs, simp length-set (c .before .before .loop .inv .2))
 
--- src/write.rt:57:1
 same-length : tie.Need-same-length Inv-loop μ-loop
 same-length c = search needs
 
--- src/write.rt:57:1
 returns : tie.Need-returns Inv-loop μ-loop
 returns c = let a = c .before .before .before .args in
     let e : c .before .loop .j ≡ a .gap = omega arith in

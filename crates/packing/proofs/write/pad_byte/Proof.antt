@@ -1,17 +1,12 @@
 use mathlib.Core.Path.{refl}
 use borrow.Author.Tests.{lt-ltb, le-ltb}
 use Rattle.laws.specs.Choice.{then, else}
-use borrow.Author.Needs.{needs}
 use Rattle.packing.proofs.write.pad_byte.Statement.{statement}
 use Rattle.packing.proofs.write.pad_byte.Tie as tie
-use Rattle.packing.proofs.write.pad_byte.Reads as reads
-use Rattle.packing.proofs.write.pad_byte.Lts as lts
 
--- src/write.rt:50:1
 returns : tie.Need-returns
 returns c = then _ _ _ _ (lt-ltb _ _ (c .if1 .taken)) refl
 
--- src/write.rt:50:1
 returns-2 : tie.Need-returns-2
 returns-2 c = else _ _ _ _ (le-ltb _ _ (c .if1 .left)) refl
 

@@ -1,21 +1,12 @@
-use Prim.Native.Nat.{ℕ, _+_, _-_, _≤_, _<_}
-use mathlib.Core.Path.{_≡_, refl, sym, ap, subst, _∙_}
-use mathlib.Core.List.{List, _++_, append-nil}
-use lib.ListN.{length, getD, take, drop, take-append-drop}
-use lib.Seq.{paste}
+use Prim.Native.Nat.{_-_}
+use mathlib.Core.Path.{_≡_, ap}
+use lib.ListN.{length}
 use denote.Ref.{now}
 use native.Mathlib.Omega.{arith}
-use Rattle.laws.specs.Turn.{end}
-use Rattle.packing.specs.Packing.{headerOf, body, sum, needed}
 use Rattle.packing.proofs.Turns.{Written, groups-turn, group-room, data-room, written-none, written-all}
 use borrow.Author.Needs.{needs}
 use Rattle.packing.proofs.write.write_groups.Statement.{statement}
 use Rattle.packing.proofs.write.write_groups.Tie as tie
-use Rattle.packing.proofs.write.write_groups.Reads as reads
-use Rattle.packing.proofs.write.write_groups.Lts as lts
-use Rattle.packing.proofs.request.size.Reads as size-reads
-use Rattle.packing.proofs.write.copy.Reads as copy-reads
-use Rattle.packing.proofs.write.header.Reads as header-reads
 
 abbrev Inv-loop : tie.InvT-loop
 Inv-loop pgns lengths «data» out₀ i₀ at₀ from₀ out i at from = Written pgns lengths «data» out₀ out i at from
@@ -23,84 +14,65 @@ Inv-loop pgns lengths «data» out₀ i₀ at₀ from₀ out i at from = Written
 abbrev μ-loop : tie.MeasureT-loop
 μ-loop pgns lengths «data» out₀ i₀ at₀ from₀ out i at from = length pgns - i
 
--- src/write.rt:38:5
 loop-holds : tie.Need-loop-holds Inv-loop μ-loop
 loop-holds c = written-none (now (c .before .before .before .before .args .pgns)) (now (c .before .before .before .before .args .lengths)) (now (c .before .before .before .before .args .«data»)) (now (c .before .before .before .before .args .out))
 
--- src/write.rt:39:22
 shared-slice-read-size : tie.Need-shared-slice-read-size Inv-loop μ-loop
 shared-slice-read-size c = search needs
 
--- src/write.rt:39:13
 size-requires : tie.Need-size-requires Inv-loop μ-loop
 size-requires c κs = search needs
 
--- src/write.rt:40:27
 mul-header : tie.Need-mul-header Inv-loop μ-loop
 mul-header c = search needs
 
--- src/write.rt:40:27
 shared-slice-read-header : tie.Need-shared-slice-read-header Inv-loop μ-loop
 shared-slice-read-header c = search needs
 
--- src/write.rt:40:36
 shared-slice-read-header-2 : tie.Need-shared-slice-read-header-2 Inv-loop μ-loop
 shared-slice-read-header-2 c = search needs
 
--- src/write.rt:40:20
 header-requires : tie.Need-header-requires Inv-loop μ-loop
 header-requires c κs = search needs
 
--- src/write.rt:41:23
 slice-aggregate-copy : tie.Need-slice-aggregate-copy Inv-loop μ-loop
 slice-aggregate-copy c = search needs
 
--- src/write.rt:41:9
 copy-requires : tie.Need-copy-requires Inv-loop μ-loop
 copy-requires c κs = let r = group-room (now (c .before .before .before .before .before .before .before .before .before .before .before .before .before .args .pgns)) (now (c .before .before .before .before .before .before .before .before .before .before .before .before .before .args .lengths)) (now (c .before .before .before .before .before .before .before .before .before .before .before .before .before .args .«data»)) (now (c .before .before .before .before .before .before .before .before .before .before .before .before .before .args .out)) (c .before .before .before .before .before .before .before .before .loop .out) (c .before .before .before .before .before .before .before .before .loop .i) (c .before .before .before .before .before .before .before .before .loop .at) (c .before .before .before .before .before .before .before .before .loop .from) (c .before .before .before .before .before .before .before .before .before .before .before .before .before .pre .0) (c .before .before .before .before .before .before .before .before .before .before .before .before .before .pre .1) (c .before .before .before .before .before .before .before .before .before .before .before .before .before .pre .2) (c .before .before .before .before .before .before .before .before .loop .inv) (c .before .before .before .before .before .before .before .loop-test .taken) in
     let h : length (c .before .before .header .result) ≡ 4 = ap length (c .before .before .header .ensures) in
     (omega arith, omega arith)
 
--- src/write.rt:42:19
 add-copy : tie.Need-add-copy Inv-loop μ-loop
 add-copy c = search needs
 
--- src/write.rt:42:9
 copy-requires-2 : tie.Need-copy-requires-2 Inv-loop μ-loop
 copy-requires-2 c κs = let r = group-room (now (c .before .before .before .before .before .before .before .before .before .before .before .before .before .before .before .before .before .args .pgns)) (now (c .before .before .before .before .before .before .before .before .before .before .before .before .before .before .before .before .before .args .lengths)) (now (c .before .before .before .before .before .before .before .before .before .before .before .before .before .before .before .before .before .args .«data»)) (now (c .before .before .before .before .before .before .before .before .before .before .before .before .before .before .before .before .before .args .out)) (c .before .before .before .before .before .before .before .before .before .before .before .before .loop .out) (c .before .before .before .before .before .before .before .before .before .before .before .before .loop .i) (c .before .before .before .before .before .before .before .before .before .before .before .before .loop .at) (c .before .before .before .before .before .before .before .before .before .before .before .before .loop .from) (c .before .before .before .before .before .before .before .before .before .before .before .before .before .before .before .before .before .pre .0) (c .before .before .before .before .before .before .before .before .before .before .before .before .before .before .before .before .before .pre .1) (c .before .before .before .before .before .before .before .before .before .before .before .before .before .before .before .before .before .pre .2) (c .before .before .before .before .before .before .before .before .before .before .before .before .loop .inv) (c .before .before .before .before .before .before .before .before .before .before .before .loop-test .taken) in
     let f = data-room (now (c .before .before .before .before .before .before .before .before .before .before .before .before .before .before .before .before .before .args .pgns)) (now (c .before .before .before .before .before .before .before .before .before .before .before .before .before .before .before .before .before .args .lengths)) (now (c .before .before .before .before .before .before .before .before .before .before .before .before .before .before .before .before .before .args .«data»)) (now (c .before .before .before .before .before .before .before .before .before .before .before .before .before .before .before .before .before .args .out)) (c .before .before .before .before .before .before .before .before .before .before .before .before .loop .out) (c .before .before .before .before .before .before .before .before .before .before .before .before .loop .i) (c .before .before .before .before .before .before .before .before .before .before .before .before .loop .at) (c .before .before .before .before .before .before .before .before .before .before .before .before .loop .from) (c .before .before .before .before .before .before .before .before .before .before .before .before .before .before .before .before .before .pre .0) (c .before .before .before .before .before .before .before .before .before .before .before .before .before .before .before .before .before .pre .1) (c .before .before .before .before .before .before .before .before .before .before .before .before .before .before .before .before .before .pre .2) (c .before .before .before .before .before .before .before .before .before .before .before .before .loop .inv) (c .before .before .before .before .before .before .before .before .before .before .before .loop-test .taken) in
     (omega (arith, c .before .before .before .copy .kept .0), omega arith)
 
--- src/write.rt:43:14
 add-at : tie.Need-add-at Inv-loop μ-loop
 add-at c = search needs
 
--- src/write.rt:43:14
 add-at-2 : tie.Need-add-at-2 Inv-loop μ-loop
 add-at-2 c = search needs
 
--- src/write.rt:44:16
 add-from : tie.Need-add-from Inv-loop μ-loop
 add-from c = search needs
 
--- src/write.rt:45:13
 add-i : tie.Need-add-i Inv-loop μ-loop
 add-i c = search needs
 
--- src/write.rt:38:5
 loop-less : tie.Need-loop-less Inv-loop μ-loop
 loop-less c = search needs
 
--- src/write.rt:38:5
 loop-again : tie.Need-loop-again Inv-loop μ-loop
 loop-again c = groups-turn (now (c .before .before .before .before .before .before .before .before .before .before .before .before .before .before .before .before .before .before .before .before .args .pgns)) (now (c .before .before .before .before .before .before .before .before .before .before .before .before .before .before .before .before .before .before .before .before .args .lengths)) (now (c .before .before .before .before .before .before .before .before .before .before .before .before .before .before .before .before .before .before .before .before .args .«data»)) (now (c .before .before .before .before .before .before .before .before .before .before .before .before .before .before .before .before .before .before .before .before .args .out)) (c .before .before .before .before .before .before .before .before .before .before .before .before .before .before .before .loop .out) (c .before .before .before .before .before .before .before .before .before .before .before .before .before .before .before .loop .i) (c .before .before .before .before .before .before .before .before .before .before .before .before .before .before .before .loop .at) (c .before .before .before .before .before .before .before .before .before .before .before .before .before .before .before .loop .from) (c .before .before .before .before .before .before .before .before .before .before .before .before .before .before .before .before .before .before .before .before .pre .0) (c .before .before .before .before .before .before .before .before .before .before .before .before .before .before .before .before .before .before .before .before .pre .1) (c .before .before .before .before .before .before .before .before .before .before .before .before .before .before .before .before .before .before .before .before .pre .2) (c .before .before .before .before .before .before .before .before .before .before .before .before .before .before .before .loop .inv) (c .before .before .before .before .before .before .before .before .before .before .before .before .before .before .loop-test .taken)
     (c .before .before .copy2 .last .0) (c .before .before .before .before .before .before .copy .last .0) (c .before .before .before .before .before .before .before .before .before .header .result) (c .before .before .before .before .before .before .before .before .before .before .before .before .size .result) (c .before .before .before .before .before .before .before .before .before .before .before .before .size .ensures .0) (c .before .before .before .before .before .before .before .before .before .header .ensures) (c .before .before .before .before .before .before .copy .ensures) (c .before .before .copy2 .ensures)
 
--- src/write.rt:31:1
 same-length : tie.Need-same-length Inv-loop μ-loop
 same-length c = search needs
 
--- src/write.rt:31:1
 returns : tie.Need-returns Inv-loop μ-loop
 returns c = written-all (now (c .before .before .before .before .before .before .args .pgns)) (now (c .before .before .before .before .before .before .args .lengths)) (now (c .before .before .before .before .before .before .args .«data»)) (now (c .before .before .before .before .before .before .args .out)) (c .before .loop .out) (c .before .loop .i) (c .before .loop .at) (c .before .loop .from) (c .before .before .before .before .before .before .pre .0) (c .before .loop .inv) (c .loop-test .left)
 
