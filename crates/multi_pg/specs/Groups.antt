@@ -1,6 +1,6 @@
 -- What a Multi-PG frame says: 01, "Groups in one frame".
 use Prim.Native.Nat.{ℕ, zero, suc, _+_, _-_, _*_, _/_, _%_}
-use mathlib.Core.Bool.{Bool, cond, not, _&&_}
+use mathlib.Core.Bool.{cond, not}
 use mathlib.Core.List.{List, [], _∷_, map}
 use lib.Dec.{eqb, leb, ltb}
 use lib.ListN.{length, getD, take, drop}
@@ -8,7 +8,6 @@ use Rattle.frame.specs.Pgn.{lowByteOk}
 use Rattle.frame.specs.declared.refusal.Refusal.{Refusal}
 use Rattle.frame.specs.declared.refusal.Refusal.the-variants.{HeaderCut, DataCut, ServiceType, TrailerFormat, PgnForm}
 use Rattle.multi_pg.specs.declared.Group.{Group}
-use Rattle.multi_pg.specs.declared.Cursor.{Cursor}
 use Rattle.multi_pg.specs.declared.Step.{Step}
 use Rattle.multi_pg.specs.declared.Step.the-variants as step
 use Rattle.multi_pg.specs.declared.Judgement.{Judgement}
@@ -35,23 +34,6 @@ dataLength d at = getD d (at + 3) 0
 
 abbrev pub groupAt : List ℕ → ℕ → Group
 groupAt d at = record { pgn = pgnAt d at; start = at + 4; len = dataLength d at }
-
--- the same by the bytes themselves
-abbrev pub pgnOf : ℕ → ℕ → ℕ → ℕ
-pgnOf first second third = 65536 * (first % 4) + 256 * second + third
-
--- the last four tests of a place, by the numbers of its header
-abbrev pub headed : ℕ → ℕ → ℕ → ℕ → ℕ → Step
-headed first pgn len start room =
-    cond (not (eqb (first / 32) 2)) (step.Fault ServiceType)
-    (cond (not (eqb (first / 4 % 8) 0)) (step.Fault TrailerFormat)
-    (cond (not (lowByteOk pgn)) (step.Fault PgnForm)
-    (cond (ltb room len) (step.Fault DataCut)
-    (step.At (record { pgn = pgn; start = start; len = len })))))
-
--- none of those tests refuses: TOS 2 and TF 0 are 16 in the first byte's top six bits
-abbrev pub plainHead : ℕ → ℕ → ℕ → ℕ → Bool
-plainHead first pgn len room = eqb (first / 4) 16 && lowByteOk pgn && leb len room
 
 -- what stands at a place, in 01's order: end, 4, 6, 7, 8, 5
 abbrev pub stepAt : List ℕ → ℕ → Step

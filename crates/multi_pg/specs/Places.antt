@@ -1,5 +1,5 @@
 -- Where a group stands, and how a reading goes from place to place: laws of the definitions in Groups.
-use Prim.Native.Nat.{ℕ, zero, suc, _+_, _-_, _*_, _/_, _%_, _≤_, _<_}
+use Prim.Native.Nat.{ℕ, zero, suc, _+_, _-_, _/_, _%_, _≤_, _<_}
 use native.Mathlib.Omega.{arith}
 use mathlib.Core.Path.{_≡_, refl, sym, ap, _∙_}
 use mathlib.Core.Bool.{Bool, true, false, cond, not, false≢true}
@@ -11,11 +11,13 @@ use Rattle.laws.specs.Choice.{else, each-of, all-of}
 use Rattle.frame.specs.Pgn.{lowByteOk}
 use Rattle.frame.specs.declared.refusal.Refusal.{Refusal}
 use Rattle.multi_pg.specs.declared.Group.{Group}
+use Rattle.multi_pg.specs.declared.Cursor.{Cursor}
 use Rattle.multi_pg.specs.declared.Step.{Step}
 use Rattle.multi_pg.specs.declared.Step.the-variants as step
 use Rattle.multi_pg.specs.declared.Judgement.the-variants as judgement
 use Rattle.multi_pg.specs.declared.Next.the-variants as next
-use Rattle.multi_pg.specs.Groups.{tos, tf, pgnAt, dataLength, groupAt, plainHead, stepAt, Reading, good, bad, after, onStep, readFrom, reading, judgementOf, nextAt, onNext}
+use Rattle.multi_pg.specs.Groups.{tos, tf, pgnAt, dataLength, groupAt, stepAt, Reading, good, bad, after, onStep, readFrom, reading, judgementOf, nextAt, onNext}
+use Rattle.multi_pg.specs.Header.{plainHead}
 
 -- ---- a place
 
@@ -143,6 +145,18 @@ module _ (d : List ℕ) (at : ℕ) where
 
   pub next-none : (Plain d at → ⊥) → nextAt d at ≡ next.End
   next-none n = next-by (stepAt d at) refl n
+
+  given-by : (s : Step) → stepAt d at ≡ s → (g : Group) (to : Cursor) → onNext s ≡ next.Given g to → (stepAt d at ≡ step.At g) × (to .at ≡ g .start + g .len)
+  given-by (step.At g) e h to q = (e ∙ cc, cc)
+  given-by step.End e h to q = absurd (let z : _≡_ {A = ℕ} 0 1 = cc in omega arith)
+  given-by (step.Fault r) e h to q = absurd (let z : _≡_ {A = ℕ} 0 1 = cc in omega arith)
+
+  -- what a caller's loop goes by: each group brings the reader on, and not past the frame's end
+  pub next-room : (g : Group) (to : Cursor) → nextAt d at ≡ next.Given g to → (at + 4 ≤ to .at) × (to .at ≤ length d) × (to .at ≡ g .start + g .len)
+  next-room g to q =
+      let (e, t) = given-by (stepAt d at) refl g to q in
+      let (a, b) = step-room d at g e in
+      (omega arith, omega arith, t)
 
   -- one test in the place of four
   abbrev pub plainHere : Bool

@@ -3,16 +3,15 @@ use Prim.Native.Nat.{ℕ, zero, suc, _+_, _-_, _≤_, _<_}
 use native.Mathlib.Omega.{arith}
 use mathlib.Core.Path.{_≡_, refl, sym, ap, subst, _∙_}
 use mathlib.Core.List.{List, [], _∷_}
-use lib.ListN.{length, getD, take, drop, length-drop}
+use lib.ListN.{length, getD, drop, length-drop}
 use lib.Seq.{length-take-le}
-use Rattle.frame.specs.declared.refusal.Refusal.{Refusal}
 use Rattle.multi_pg.specs.declared.Group.{Group}
 use Rattle.multi_pg.specs.declared.Cursor.{Cursor}
 use Rattle.multi_pg.specs.declared.Step.{Step}
 use Rattle.multi_pg.specs.declared.Step.the-variants as step
 use Rattle.multi_pg.specs.declared.Next.the-variants as next
 use Rattle.multi_pg.specs.Groups.{dataLength, groupAt, stepAt, Reading, good, bad, after, onStep, readFrom, reading, judgementOf, groupsIn, groupsOf, startAt, startOf, onNext, nextAt, contentOf}
-use Rattle.multi_pg.specs.Places.{Plain, plain-step, step-plain, step-room, readOn, read-all, read-group, read-end, read-fault, short-none, enough}
+use Rattle.multi_pg.specs.Places.{Plain, plain-step, step-plain, step-room, readOn, read-all, read-group, read-end, short-none}
 
 -- ---- what is given out
 

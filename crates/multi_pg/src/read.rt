@@ -1,7 +1,7 @@
 // A Multi-PG frame read at a place, and judged whole (01, "Groups in one frame").
 ghost use mathlib.Core.Path.{_≡_};
-ghost use Prim.Native.Nat.{_<_};
-ghost use Rattle.multi_pg.specs.Groups.{pgnOf, headed, plainHead, stepAt, judgementOf, reading};
+ghost use Rattle.multi_pg.specs.Groups.{stepAt, judgementOf, reading};
+ghost use Rattle.multi_pg.specs.Header.{pgnOf, headed, plainHead};
 use super::Group;
 use super::Judgement;
 use super::Step;
