@@ -9,8 +9,8 @@ use request::need;
 use write::pad;
 use write::write_groups;
 
-pub mod request;
-pub mod write;
+mod request;
+mod write;
 
 pub enum Packed {
     // the frame's length; its bytes are the first of the output
