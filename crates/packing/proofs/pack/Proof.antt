@@ -1,0 +1,93 @@
+use Prim.Native.Nat.{ℕ, _+_, _-_}
+use mathlib.Core.Path.{_≡_, refl, sym, ap, _∙_}
+use mathlib.Core.Bool.{true, not}
+use mathlib.Core.List.{List, _++_}
+use lib.ListN.{length, drop}
+use lib.Seq.{paste}
+use denote.Ref.{now}
+use native.Mathlib.Omega.{arith}
+use borrow.Author.Tests.{not-false}
+use Rattle.laws.specs.Choice.{then, else}
+use Rattle.packing.specs.declared.Packed.the-variants.{Frame}
+use Rattle.packing.specs.Packing.{body, padding, needed, frameLength, pgnsOk, requestFits, packed}
+use Rattle.packing.specs.Shapes.{Met, request-met, capped-low, frame-bounds, padded}
+use borrow.Author.Needs.{needs}
+use Rattle.packing.proofs.pack.Statement.{statement}
+use Rattle.packing.proofs.pack.Tie as tie
+
+module _ (ps ns d o o₁ o′ : List ℕ) (n bytes : ℕ) (m : Met ps ns d (length o)) where
+  accepted : pgnsOk ps ≡ true → requestFits ps ns d (length o) ≡ true → bytes ≡ needed ns → n ≡ frameLength bytes
+      → o₁ ≡ body ps ns d ++ drop (needed ns) o → o′ ≡ paste o₁ bytes (padding (n - bytes)) (n - bytes)
+      → (Frame n, o′) ≡ packed ps ns d o
+  unfolding packed
+  accepted p f eb en e₁ e′ =
+      let en′ : n ≡ frameLength (needed ns) = en ∙ ap frameLength eb in
+      let X : List ℕ = body ps ns d ++ drop (needed ns) o in
+      else (not (pgnsOk ps)) _ _ _ (ap not p)
+      (else (not (requestFits ps ns d (length o))) _ _ _ (ap not f)
+      (ap (λ (k : ℕ). (Frame k, o′)) en′
+      ∙ ap (λ (l : List ℕ). (Frame (frameLength (needed ns)), l))
+      (e′
+      ∙ ap (λ (l : List ℕ). paste l bytes (padding (n - bytes)) (n - bytes)) e₁
+      ∙ ap (λ (b : ℕ). paste X b (padding (n - b)) (n - b)) eb
+      ∙ ap (λ (k : ℕ). paste X (needed ns) (padding (k - needed ns)) (k - needed ns)) en′
+      ∙ padded ps ns d (m .even) (m .whole) (m .small) o)))
+
+all-pgns-requires : tie.Need-all-pgns-requires
+all-pgns-requires c κs = search needs
+
+returns : tie.Need-returns
+unfolding packed
+returns c = then (not (pgnsOk (now (c .before .before .before .before .before .before .args .pgns)))) _ _ _ (ap not (sym (c .before .all-pgns .ensures)) ∙ c .if1 .taken) refl
+
+need-requires : tie.Need-need-requires
+need-requires c κs = search needs
+
+fits-requires : tie.Need-fits-requires
+fits-requires c κs = search needs
+
+returns-2 : tie.Need-returns-2
+unfolding packed
+returns-2 c = else (not (pgnsOk (now (c .before .before .before .before .before .before .before .before .before .args .pgns)))) _ _ _ (ap not (sym (c .before .before .before .before .all-pgns .ensures)) ∙ c .before .before .before .if1 .left)
+    (then (not (requestFits (now (c .before .before .before .before .before .before .before .before .before .args .pgns)) (now (c .before .before .before .before .before .before .before .before .before .args .lengths)) (now (c .before .before .before .before .before .before .before .before .before .args .«data»)) (length (now (c .before .before .before .before .before .before .before .before .before .args .out))))) _ _ _ (ap not (sym (c .before .fits2 .ensures)) ∙ c .if2 .taken) refl)
+
+frame-length-requires : tie.Need-frame-length-requires
+frame-length-requires c κs = search needs
+
+write-groups-requires : tie.Need-write-groups-requires
+write-groups-requires c κs = let m = request-met (now (c .before .before .before .before .before .before .before .before .before .before .before .args .pgns)) (now (c .before .before .before .before .before .before .before .before .before .before .before .args .lengths)) (now (c .before .before .before .before .before .before .before .before .before .before .before .args .«data»)) (length (now (c .before .before .before .before .before .before .before .before .before .before .before .args .out))) (sym (c .before .before .before .fits2 .ensures) ∙ not-false _ (c .before .before .if2 .left)) in
+    (m .even, m .whole, omega arith)
+
+sub-pad : tie.Need-sub-pad
+sub-pad c = let m = request-met (now (c .before .before .before .before .before .before .before .before .before .before .before .before .before .before .before .args .pgns)) (now (c .before .before .before .before .before .before .before .before .before .before .before .before .before .before .before .args .lengths)) (now (c .before .before .before .before .before .before .before .before .before .before .before .before .before .before .before .args .«data»)) (length (now (c .before .before .before .before .before .before .before .before .before .before .before .before .before .before .before .args .out))) (sym (c .before .before .before .before .before .before .before .fits2 .ensures) ∙ not-false _ (c .before .before .before .before .before .before .if2 .left)) in
+    let e : c .before .before .before .before .before .before .before .before .need .result ≡ needed (now (c .before .before .before .before .before .before .before .before .before .before .before .before .before .before .before .args .lengths)) = c .before .before .before .before .before .before .before .before .need .ensures ∙ capped-low (needed (now (c .before .before .before .before .before .before .before .before .before .before .before .before .before .before .before .args .lengths))) (m .small) in
+    omega (arith, frame-bounds (needed (now (c .before .before .before .before .before .before .before .before .before .before .before .before .before .before .before .args .lengths))) (m .small), c .before .before .before .before .before .frame-length .ensures ∙ ap frameLength e)
+
+pad-requires : tie.Need-pad-requires
+pad-requires c κs = let m = request-met (now (c .before .before .before .before .before .before .before .before .before .before .before .before .before .before .before .args .pgns)) (now (c .before .before .before .before .before .before .before .before .before .before .before .before .before .before .before .args .lengths)) (now (c .before .before .before .before .before .before .before .before .before .before .before .before .before .before .before .args .«data»)) (length (now (c .before .before .before .before .before .before .before .before .before .before .before .before .before .before .before .args .out))) (sym (c .before .before .before .before .before .before .before .fits2 .ensures) ∙ not-false _ (c .before .before .before .before .before .before .if2 .left)) in
+    let e : c .before .before .before .before .before .before .before .before .need .result ≡ needed (now (c .before .before .before .before .before .before .before .before .before .before .before .before .before .before .before .args .lengths)) = c .before .before .before .before .before .before .before .before .need .ensures ∙ capped-low (needed (now (c .before .before .before .before .before .before .before .before .before .before .before .before .before .before .before .args .lengths))) (m .small) in
+    omega (arith, frame-bounds (needed (now (c .before .before .before .before .before .before .before .before .before .before .before .before .before .before .before .args .lengths))) (m .small), c .before .before .before .before .before .frame-length .ensures ∙ ap frameLength e, c .before .before .before .write-groups .kept)
+
+same-length : tie.Need-same-length
+same-length c = search needs
+
+returns-3 : tie.Need-returns-3
+returns-3 c = let m = request-met (now (c .before .before .before .before .before .before .before .before .before .before .before .before .before .before .before .before .before .before .args .pgns)) (now (c .before .before .before .before .before .before .before .before .before .before .before .before .before .before .before .before .before .before .args .lengths)) (now (c .before .before .before .before .before .before .before .before .before .before .before .before .before .before .before .before .before .before .args .«data»)) (length (now (c .before .before .before .before .before .before .before .before .before .before .before .before .before .before .before .before .before .before .args .out))) (sym (c .before .before .before .before .before .before .before .before .before .before .fits2 .ensures) ∙ not-false _ (c .before .before .before .before .before .before .before .before .before .if2 .left)) in
+    accepted (now (c .before .before .before .before .before .before .before .before .before .before .before .before .before .before .before .before .before .before .args .pgns)) (now (c .before .before .before .before .before .before .before .before .before .before .before .before .before .before .before .before .before .before .args .lengths)) (now (c .before .before .before .before .before .before .before .before .before .before .before .before .before .before .before .before .before .before .args .«data»)) (now (c .before .before .before .before .before .before .before .before .before .before .before .before .before .before .before .before .before .before .args .out)) (c .before .before .before .before .before .before .write-groups .last .1 .1 .1 .0) (c .before .before .pad .last .0) (c .before .before .before .before .before .before .before .before .frame-length .result) (c .before .before .before .before .before .before .before .before .before .before .before .need .result) m
+    (sym (c .before .before .before .before .before .before .before .before .before .before .before .before .before .all-pgns .ensures) ∙ not-false _ (c .before .before .before .before .before .before .before .before .before .before .before .before .if1 .left)) (sym (c .before .before .before .before .before .before .before .before .before .before .fits2 .ensures) ∙ not-false _ (c .before .before .before .before .before .before .before .before .before .if2 .left)) (c .before .before .before .before .before .before .before .before .before .before .before .need .ensures ∙ capped-low (needed (now (c .before .before .before .before .before .before .before .before .before .before .before .before .before .before .before .before .before .before .args .lengths))) (m .small)) (c .before .before .before .before .before .before .before .before .frame-length .ensures) (c .before .before .before .before .before .before .write-groups .ensures) (c .before .before .pad .ensures)
+
+pub pack-spec : {M : Type 1} → statement M
+pack-spec =
+    tie.close
+    (tie.spec
+    all-pgns-requires
+    returns
+    need-requires
+    fits-requires
+    returns-2
+    frame-length-requires
+    write-groups-requires
+    sub-pad
+    pad-requires
+    same-length
+    returns-3)

@@ -1,0 +1,5 @@
+pub mod LengthLaws
+pub mod Packing
+pub mod Shapes
+pub mod RoundTrip
+pub mod Table
