@@ -1,0 +1,53 @@
+-- The records of a trace: 01, "Program". Number 0 and a reading; or number 1, identifier, length (at most 64), then that many bytes.
+-- A record is judged from the left, and the first fault decides. Where the bytes end first, more are needed.
+use Prim.Native.Nat.{ℕ, _+_, _-_}
+use mathlib.Core.Bool.{cond}
+use mathlib.Core.List.{List}
+use lib.Dec.{eqb, leb, ltb}
+use lib.ListN.{length}
+use Rattle.trace.specs.declared.Fault.{Fault}
+use Rattle.trace.specs.declared.Fault.the-variants.{Cut, NotShortest, TooLarge, Kind, Length}
+use Rattle.trace.specs.declared.number.NumberRead.{NumberRead}
+use Rattle.trace.specs.declared.number.NumberRead.the-variants as number
+use Rattle.trace.specs.declared.record.RecordRead.{RecordRead}
+use Rattle.trace.specs.declared.record.RecordRead.the-variants.{End, Reading, Frame, More, Bad}
+use Rattle.trace.specs.Numbers.{numberAt}
+
+-- a number that is no number: cut, so that more bytes may make it one, or bad whatever follows
+abbrev pub faulted : Fault → RecordRead
+faulted Cut = More
+faulted NotShortest = Bad NotShortest
+faulted TooLarge = Bad TooLarge
+faulted Kind = Bad Kind
+faulted Length = Bad Length
+
+-- a number, then what goes by it and the place after it
+abbrev pub onNumber : NumberRead → (ℕ → ℕ → RecordRead) → RecordRead
+onNumber (number.Number n next) rest = rest n next
+onNumber (number.Bad f) rest = faulted f
+
+abbrev pub readingAt : List ℕ → ℕ → RecordRead
+readingAt d at = onNumber (numberAt d at) Reading
+
+-- n bytes from a place on, of bytes that end at `end`
+abbrev pub bytesAt : ℕ → ℕ → ℕ → ℕ → RecordRead
+bytesAt end identifier n start =
+    cond (ltb 64 n) (Bad Length)
+    (cond (ltb (end - start) n) More
+    (Frame identifier start n (start + n)))
+
+abbrev pub lengthAt : List ℕ → ℕ → ℕ → RecordRead
+lengthAt d identifier at = onNumber (numberAt d at) (bytesAt (length d) identifier)
+
+abbrev pub frameAt : List ℕ → ℕ → RecordRead
+frameAt d at = onNumber (numberAt d at) (lengthAt d)
+
+abbrev pub byKind : List ℕ → ℕ → ℕ → RecordRead
+byKind d kind at =
+    cond (eqb kind 0) (readingAt d at)
+    (cond (eqb kind 1) (frameAt d at)
+    (Bad Kind))
+
+-- the record at a place of a list
+abbrev pub recordAt : List ℕ → ℕ → RecordRead
+recordAt d at = cond (leb (length d) at) End (onNumber (numberAt d at) (byKind d))
