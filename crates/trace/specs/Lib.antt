@@ -1,2 +1,5 @@
 pub mod Numbers
 pub mod Records
+pub mod Outputs
+pub mod Placing
+pub mod NumberLaws

@@ -38,3 +38,14 @@ numberOn at (b ∷ bs) =
 -- the number at a place of a list
 abbrev pub numberAt : List ℕ → ℕ → NumberRead
 numberAt d at = numberOn at (drop at d)
+
+-- ---- written
+
+-- the groups of n in their shortest form, this one and at most `more` others
+unfoldable pub groupBytes : ℕ → ℕ → List ℕ
+groupBytes zero n = n ∷ []
+groupBytes (suc more) n = cond (ltb n 128) (n ∷ []) ((n % 128 + 128) ∷ groupBytes more (n / 128))
+
+-- the bytes of a number below 4,294,967,296
+unfoldable pub numberBytes : ℕ → List ℕ
+numberBytes n = groupBytes 4 n

@@ -2,7 +2,7 @@
 -- A record is judged from the left, and the first fault decides. Where the bytes end first, more are needed.
 use Prim.Native.Nat.{ℕ, _+_, _-_}
 use mathlib.Core.Bool.{cond}
-use mathlib.Core.List.{List}
+use mathlib.Core.List.{List, _++_}
 use lib.Dec.{eqb, leb, ltb}
 use lib.ListN.{length}
 use Rattle.trace.specs.declared.Fault.{Fault}
@@ -11,7 +11,7 @@ use Rattle.trace.specs.declared.number.NumberRead.{NumberRead}
 use Rattle.trace.specs.declared.number.NumberRead.the-variants as number
 use Rattle.trace.specs.declared.record.RecordRead.{RecordRead}
 use Rattle.trace.specs.declared.record.RecordRead.the-variants.{End, Reading, Frame, More, Bad}
-use Rattle.trace.specs.Numbers.{numberAt}
+use Rattle.trace.specs.Numbers.{numberAt, numberBytes}
 
 -- a number that is no number: cut, so that more bytes may make it one, or bad whatever follows
 abbrev pub faulted : Fault → RecordRead
@@ -51,3 +51,15 @@ byKind d kind at =
 -- the record at a place of a list
 abbrev pub recordAt : List ℕ → ℕ → RecordRead
 recordAt d at = cond (leb (length d) at) End (onNumber (numberAt d at) (byKind d))
+
+-- ---- written
+
+-- what a record says
+pub data Record : Type 0 where
+  reading : ℕ → Record
+  frame : ℕ → List ℕ → Record
+
+-- its bytes
+abbrev pub recordBytes : Record → List ℕ
+recordBytes (reading value) = numberBytes 0 ++ numberBytes value
+recordBytes (frame identifier bytes) = numberBytes 1 ++ (numberBytes identifier ++ (numberBytes (length bytes) ++ bytes))

@@ -1,5 +1,6 @@
 // The trace that the program reads (01, "Program"): its numbers and its records.
 pub mod number;
+pub mod output;
 pub mod record;
 
 // Why bytes are no number or no record.

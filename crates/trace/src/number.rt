@@ -1,9 +1,12 @@
 // Numbers: groups of seven bits, low group first, top bit set when more follow, shortest form only, below 4,294,967,296.
 ghost use mathlib.Core.Path.{_≡_};
-ghost use Prim.Native.Nat.{_+_, _*_, _^_, _<_};
-ghost use lib.ListN.{drop};
-ghost use Rattle.trace.specs.Numbers.{numberAt, laterGroups, lastGroup, onto};
+ghost use Prim.Native.Nat.{_+_, _*_, _^_, _<_, _≤_};
+ghost use lib.ListN.{length, drop};
+ghost use Rattle.trace.specs.Numbers.{numberAt, laterGroups, lastGroup, onto, numberBytes};
+ghost use Rattle.trace.specs.Outputs.{Put, NumberWritten};
 use super::Fault;
+use super::output;
+use super::output::Written;
 
 pub enum NumberRead {
     // the number, and the place after it
@@ -80,4 +83,49 @@ fn last_group(b: u32, at: usize, value: u32, scale: u32) -> NumberRead
         return NumberRead::Bad(Fault::NotShortest);
     }
     NumberRead::Number(value + scale * b, at + 1)
+}
+
+// How many bytes a number has.
+pub fn size(n: u32) -> usize
+    ensures { λ r. ⌜ (r ≡ length (numberBytes n)) × (r ≤ 5) ⌝ }
+{
+    if n < 128 {
+        return 1;
+    }
+    if n < 16384 {
+        return 2;
+    }
+    if n < 2097152 {
+        return 3;
+    }
+    if n < 268435456 {
+        return 4;
+    }
+    5
+}
+
+// Writes a number at a place that has room for it.
+pub fn put(out: &mut [u8], at: usize, n: u32) -> usize
+    requires { ⌜ at + length (numberBytes n) ≤ length (now out) ⌝ }
+    ensures { λ r. ⌜ Put (now (out .entry)) at (numberBytes n) r (now (out .exit)) ⌝ }
+{
+    let mut i: usize = 0;
+    let mut rest = n;
+    while 128 <= rest {
+        out[at + i] = (rest % 128 + 128) as u8;
+        rest = rest / 128;
+        i = i + 1;
+    }
+    out[at + i] = rest as u8;
+    at + i + 1
+}
+
+// Writes a number at a place, if there is room.
+pub fn write(out: &mut [u8], at: usize, n: u32) -> Written
+    ensures { λ r. ⌜ NumberWritten (now (out .entry)) at (numberBytes n) r (now (out .exit)) ⌝ }
+{
+    if !output::has_room(out.len(), at, size(n)) {
+        return Written::NoRoom;
+    }
+    Written::Next(put(out, at, n))
 }

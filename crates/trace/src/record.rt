@@ -1,11 +1,14 @@
 // Records: number 0 and a reading, or number 1, identifier, length, then that many bytes.
 ghost use mathlib.Core.Path.{_≡_};
-ghost use Prim.Native.Nat.{_≤_};
+ghost use Prim.Native.Nat.{_+_, _≤_};
 ghost use lib.ListN.{length};
-ghost use Rattle.trace.specs.Records.{recordAt, byKind, readingAt, frameAt, lengthAt, bytesAt, faulted};
+ghost use Rattle.trace.specs.Records.{recordAt, byKind, readingAt, frameAt, lengthAt, bytesAt, faulted, reading as ofReading, frame as ofFrame, recordBytes};
+ghost use Rattle.trace.specs.Outputs.{Put, RecordWritten};
 use super::Fault;
 use super::number;
 use super::number::NumberRead;
+use super::output;
+use super::output::Written;
 
 pub enum RecordRead {
     // no byte stands at the place: between two records, not inside one
@@ -114,4 +117,42 @@ fn bytes(end: usize, identifier: u32, len: u32, start: usize) -> RecordRead
         len: n,
         next: start + n,
     }
+}
+
+// Writes the record of a reading at a place, if there is room.
+pub fn write_reading(out: &mut [u8], at: usize, value: u32) -> Written
+    ensures { λ r. ⌜ RecordWritten (now (out .entry)) at (ofReading value) r (now (out .exit)) ⌝ }
+{
+    let need = number::size(0) + number::size(value);
+    if !output::has_room(out.len(), at, need) {
+        return Written::NoRoom;
+    }
+    let next = number::put(out, at, 0);
+    Written::Next(number::put(out, next, value))
+}
+
+// Writes the record of a frame at a place, if the frame has at most 64 bytes and there is room.
+pub fn write_frame(out: &mut [u8], at: usize, identifier: u32, s: &[u8]) -> Written
+    ensures { λ r. ⌜ RecordWritten (now (out .entry)) at (ofFrame identifier (now (s .entry))) r (now (out .exit)) ⌝ }
+{
+    let n = s.len();
+    if 64 < n {
+        return Written::TooLong;
+    }
+    let need = number::size(1) + number::size(identifier) + number::size(n as u32) + n;
+    if !output::has_room(out.len(), at, need) {
+        return Written::NoRoom;
+    }
+    Written::Next(put_frame(out, at, identifier, s))
+}
+
+// Writes a frame's record at a place that has room for it.
+fn put_frame(out: &mut [u8], at: usize, identifier: u32, s: &[u8]) -> usize
+    requires { ⌜ (length (now s) ≤ 64) × (at + length (recordBytes (ofFrame identifier (now s))) ≤ length (now out)) ⌝ }
+    ensures { λ r. ⌜ Put (now (out .entry)) at (recordBytes (ofFrame identifier (now (s .entry)))) r (now (out .exit)) ⌝ }
+{
+    let after_kind = number::put(out, at, 1);
+    let after_identifier = number::put(out, after_kind, identifier);
+    let start = number::put(out, after_identifier, s.len() as u32);
+    output::copy(out, start, s)
 }
