@@ -3,3 +3,5 @@ pub mod Records
 pub mod Outputs
 pub mod Placing
 pub mod NumberLaws
+pub mod Examples
+pub mod NumberTrips
