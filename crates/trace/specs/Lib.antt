@@ -5,3 +5,4 @@ pub mod Placing
 pub mod NumberLaws
 pub mod Examples
 pub mod NumberTrips
+pub mod RecordTrips

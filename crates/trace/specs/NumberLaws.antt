@@ -2,6 +2,7 @@
 use Prim.Native.Nat.{ℕ, zero, suc, _+_, _-_, _*_, _/_, _%_, _^_, _<_, _≤_}
 use native.Mathlib.Nat.{pow-suc, mul-assoc}
 use native.Mathlib.Omega.{arith}
+use native.Mathlib.Decide.{decLt}
 use mathlib.Core.Path.{_≡_, refl, sym, ap, subst, _∙_}
 use mathlib.Core.List.{List, [], _∷_}
 use lib.Dec.{ltb}
@@ -61,3 +62,25 @@ all-left n = refl
 
 pub last-left : (i n : ℕ) (s : List ℕ) → n < 128 → drop i s ≡ groupBytes (4 - i) n → drop i s ≡ n ∷ []
 last-left i n s h e = e ∙ bytes-short (4 - i) n h
+
+-- from one byte to five
+pub size-one : (n : ℕ) → n < 128 → length (numberBytes n) ≡ 1
+unfolding numberBytes
+size-one n h = sym (size-short 4 n h)
+
+some-group : (more n : ℕ) → (0 < length (groupBytes more n)) × (length (groupBytes more n) ≤ more + 1)
+unfolding groupBytes
+some-group zero n = (omega arith, omega arith)
+some-group (suc more) n =
+    elim (decLt n 128) [
+      | yes h ↦ let e = size-short (suc more) n h in (omega arith, omega arith)
+      | no h ↦ let g = some-group more (n / 128) in let e = size-long more n (omega arith) refl in (omega arith, omega arith)
+    ]
+
+pub size-some : (n : ℕ) → 0 < length (numberBytes n)
+unfolding numberBytes
+size-some n = some-group 4 n .0
+
+pub size-most : (n : ℕ) → length (numberBytes n) ≤ 5
+unfolding numberBytes
+size-most n = some-group 4 n .1

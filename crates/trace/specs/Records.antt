@@ -1,10 +1,10 @@
 -- The records of a trace: 01, "Program". Number 0 and a reading; or number 1, identifier, length (at most 64), then that many bytes.
 -- A record is judged from the left, and the first fault decides. Where the bytes end first, more are needed.
-use Prim.Native.Nat.{ℕ, _+_, _-_}
+use Prim.Native.Nat.{ℕ, _+_, _-_, _<_, _≤_}
 use mathlib.Core.Bool.{cond}
 use mathlib.Core.List.{List, _++_}
 use lib.Dec.{eqb, leb, ltb}
-use lib.ListN.{length}
+use lib.ListN.{length, take, drop}
 use Rattle.trace.specs.declared.Fault.{Fault}
 use Rattle.trace.specs.declared.Fault.the-variants.{Cut, NotShortest, TooLarge, Kind, Length}
 use Rattle.trace.specs.declared.number.NumberRead.{NumberRead}
@@ -63,3 +63,20 @@ pub data Record : Type 0 where
 abbrev pub recordBytes : Record → List ℕ
 recordBytes (reading value) = numberBytes 0 ++ numberBytes value
 recordBytes (frame identifier bytes) = numberBytes 1 ++ (numberBytes identifier ++ (numberBytes (length bytes) ++ bytes))
+
+-- a record that the format has
+abbrev pub Good : Record → Type 0
+Good (reading value) = value < 4294967296
+Good (frame identifier bytes) = (identifier < 4294967296) × (length bytes ≤ 64)
+
+-- what the record that was read from d says, with the place after it; or nothing
+pub data Said : Type 0 where
+  says : Record → ℕ → Said
+  nothing : Said
+
+abbrev pub said : List ℕ → RecordRead → Said
+said d (Reading value next) = says (reading value) next
+said d (Frame identifier start n next) = says (frame identifier (take n (drop start d))) next
+said d End = nothing
+said d More = nothing
+said d (Bad f) = nothing
