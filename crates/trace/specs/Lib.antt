@@ -6,3 +6,4 @@ pub mod NumberLaws
 pub mod Examples
 pub mod NumberTrips
 pub mod RecordTrips
+pub mod Streams
