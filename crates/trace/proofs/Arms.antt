@@ -55,6 +55,7 @@ within-none end at [] h = tt
 within-none end at (b ∷ bs) h = absurd (omega arith)
 
 pub within-at : (d : List ℕ) (at : ℕ) → Within (length d) (numberAt d at)
+unfolding numberAt
 within-at d at =
     elim (decLe at (length d)) [
       | yes h ↦ within-on (length d) at (drop at d) (omega (arith, length-drop at d))

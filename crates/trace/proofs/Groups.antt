@@ -64,16 +64,20 @@ module _ (l : List ℕ) (at v w : ℕ) where
 -- the first group
 module _ (l : List ℕ) (at : ℕ) where
   pub cut-first : length l ≤ at → Bad Cut ≡ numberAt l at
+  unfolding numberAt
   cut-first h = sym (end (numberOn at) l at h)
 
   module _ (b : ℕ) (inside : at < length l) (is : b ≡ getD l at 0) where
     first-here : numberOn at (b ∷ drop (at + 1) l) ≡ numberAt l at
+    unfolding numberAt
     first-here = ap (λ (x : ℕ). numberOn at (x ∷ drop (at + 1) l)) is ∙ sym (turn (numberOn at) l at 0 inside)
 
     pub only : b < 128 → Number b (at + 1) ≡ numberAt l at
+    unfolding numberAt
     only h = then (ltb b 128) _ _ _ (lt-ltb b 128 h) refl ∙ first-here
 
     pub first-of : 128 ≤ b → onto (b - 128) 128 (laterGroups 3 (at + 1) (drop (at + 1) l)) ≡ numberAt l at
+    unfolding numberAt
     first-of h = else (ltb b 128) _ _ _ (le-ltb b 128 h) refl ∙ first-here
 
 -- the scale while `more` groups may follow: at the fifth group it is 2 ^ 28

@@ -24,10 +24,11 @@ bytes-long more n h = sym (else (ltb n 128) _ _ _ (le-ltb n 128 h) refl)
 abbrev pub Held : ℕ → ℕ → Type 0
 Held more n = n < 16 * 128 ^ more
 
+pub held-step : (more : ℕ) → 16 * 128 ^ suc more ≡ 16 * 128 ^ more * 128
+held-step more = ap (λ (k : ℕ). 16 * k) (pow-suc 128 more) ∙ sym (mul-assoc 16 (128 ^ more) 128)
+
 pub held-next : (more n : ℕ) → Held (suc more) n → Held more (n / 128)
-held-next more n h =
-    let e : 16 * 128 ^ suc more ≡ 16 * 128 ^ more * 128 = ap (λ (k : ℕ). 16 * k) (pow-suc 128 more) ∙ sym (mul-assoc 16 (128 ^ more) 128) in
-    omega arith
+held-next more n h = let e = held-step more in omega arith
 
 -- a number of several groups, while i of its bytes are written
 module _ (i n : ℕ) (s : List ℕ) (long : 128 ≤ n) (held : Held (4 - i) n) where

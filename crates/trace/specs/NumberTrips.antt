@@ -1,6 +1,6 @@
 -- What is written reads back, and only what is written reads: a number has one form.
 use Prim.Native.Nat.{ℕ, zero, suc, _+_, _-_, _*_, _/_, _%_, _^_, _<_, _≤_}
-use native.Mathlib.Nat.{pow-suc, mul-assoc, one-le-pow}
+use native.Mathlib.Nat.{one-le-pow}
 use native.Mathlib.Numerals.{add-one}
 use native.Mathlib.Omega.{arith}
 use native.Mathlib.Decide.{decLt}
@@ -17,7 +17,7 @@ use Rattle.trace.specs.declared.Fault.the-variants.{Cut, NotShortest, To
 use Rattle.trace.specs.declared.number.NumberRead.{NumberRead}
 use Rattle.trace.specs.declared.number.NumberRead.the-variants.{Number, Bad}
 use Rattle.trace.specs.Numbers.{onto, lastGroup, laterGroups, numberOn, numberAt, groupBytes, numberBytes}
-use Rattle.trace.specs.NumberLaws.{bytes-short, bytes-long, Held, held-next}
+use Rattle.trace.specs.NumberLaws.{bytes-short, bytes-long, Held, held-step, held-next}
 
 -- ---- written, then read
 
@@ -60,6 +60,7 @@ on-back at n ys h =
 
 pub number-at : (d : List ℕ) (at n : ℕ) (ys : List ℕ) → n < 4294967296 → drop at d ≡ numberBytes n ++ ys
     → numberAt d at ≡ Number n (at + length (numberBytes n))
+unfolding numberAt
 number-at d at n ys h e = ap (numberOn at) e ∙ on-back at n ys h
 
 -- a number's bytes at any place of any list read back as the number and the place after them
@@ -94,7 +95,7 @@ never : {A : Type 0} {f : Fault} {n next : ℕ} → Bad f ≡ Number n next → 
 never e = absurd (let z : _≡_ {A = ℕ} 0 1 = cc in omega arith)
 
 -- the cases of a test
-by-test : {A : Type 0} (t : Bool) → (t ≡ true → A) → (t ≡ false → A) → A
+pub by-test : {A : Type 0} (t : Bool) → (t ≡ true → A) → (t ≡ false → A) → A
 by-test true p q = p refl
 by-test false p q = q refl
 
@@ -158,7 +159,7 @@ module _ (more at b m next : ℕ) (bs : List ℕ) (byte : b < 256) (top : 128 �
   two-held : Held (suc more) (b - 128 + 128 * m)
   two-held =
       let h = up .held in
-      let e : 16 * 128 ^ suc more ≡ 16 * 128 ^ more * 128 = ap (λ (k : ℕ). 16 * k) (pow-suc 128 more) ∙ sym (mul-assoc 16 (128 ^ more) 128) in
+      let e = held-step more in
       omega arith
 
 -- what stands above a group that has more
@@ -184,7 +185,7 @@ later-told (suc more) at (b ∷ bs) {n} {next} h e =
   where
     small : b < 128 → Held (suc more) b
     small s =
-        let e′ : 16 * 128 ^ suc more ≡ 16 * 128 ^ more * 128 = ap (λ (k : ℕ). 16 * k) (pow-suc 128 more) ∙ sym (mul-assoc 16 (128 ^ more) 128) in
+        let e′ = held-step more in
         let g : 0 < 128 ^ more = one-le-pow more 128 (omega arith) in
         omega arith
 
@@ -238,6 +239,7 @@ pub record Stands (d : List ℕ) (at n next : ℕ) : Type 0 where
   pub bytes : drop at d ≡ numberBytes n ++ drop next d
 
 pub number-stands : (d : List ℕ) (at : ℕ) {n next : ℕ} → Bytes d → numberAt d at ≡ Number n next → Stands d at n next
+unfolding numberAt
 number-stands d at {n} {next} h e =
     let o : OnTold at (drop at d) n next = on-told at (drop at d) (bytes-drop d at h) e in
     let g : Begins at (drop at d) (numberBytes n) next = o .begins in

@@ -36,7 +36,7 @@ numberOn at (b ∷ bs) =
     (onto (b - 128) 128 (laterGroups 3 (at + 1) bs))
 
 -- the number at a place of a list
-abbrev pub numberAt : List ℕ → ℕ → NumberRead
+unfoldable pub numberAt : List ℕ → ℕ → NumberRead
 numberAt d at = numberOn at (drop at d)
 
 -- ---- written

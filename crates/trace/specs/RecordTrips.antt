@@ -29,6 +29,7 @@ after-piece d at s {rest} e = sym (drop-drop (length s) at d) ∙ ap (drop (leng
 -- a record whose kind reads
 by-kind-back : (d : List ℕ) (at kind : ℕ) (rest : List ℕ) → kind < 4294967296 → drop at d ≡ numberBytes kind ++ rest
     → recordAt d at ≡ byKind d kind (at + length (numberBytes kind))
+unfolding recordAt
 by-kind-back d at kind rest h e =
     let inside : at < length d = omega (arith, length-drop at d, ap length e, length-append (numberBytes kind) rest, size-some kind) in
     sym (else (leb (length d) at) _ _ _ (lt-leb (length d) at inside) refl)
@@ -218,6 +219,7 @@ module _ (d : List ℕ) (at : ℕ) (h : Bytes d) where
       (λ _ q. silent q))
 
   pub record-stands : {x : Record} {next : ℕ} → said d (recordAt d at) ≡ says x next → RecordStands d at x next
+  unfolding recordAt
   record-stands e =
       test-said d (leb (length d) at) End (onNumber (numberAt d at) (byKind d)) e (λ _ q. silent q)
       (λ _ e₁.

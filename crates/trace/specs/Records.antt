@@ -49,7 +49,7 @@ byKind d kind at =
     (Bad Kind))
 
 -- the record at a place of a list
-abbrev pub recordAt : List ℕ → ℕ → RecordRead
+unfoldable pub recordAt : List ℕ → ℕ → RecordRead
 recordAt d at = cond (leb (length d) at) End (onNumber (numberAt d at) (byKind d))
 
 -- ---- written

@@ -20,7 +20,7 @@ use Rattle.trace.specs.declared.record.RecordRead.the-variants.{End, Rea
 use Rattle.trace.specs.Numbers.{onto, lastGroup, laterGroups, numberOn, numberAt, numberBytes}
 use Rattle.trace.specs.Records.{faulted, onNumber, readingAt, bytesAt, lengthAt, frameAt, byKind, recordAt}
 use Rattle.trace.specs.NumberLaws.{size-one, size-most}
-use Rattle.trace.specs.NumberTrips.{Bytes, Stands, number-stands}
+use Rattle.trace.specs.NumberTrips.{by-test, Bytes, Stands, number-stands}
 
 -- ---- bytes before
 
@@ -74,6 +74,7 @@ module _ (k : ℕ) where
       ∙ over-cond (movedNumber k) (ltb b 128) (number.Number b (at + 1)) (onto (b - 128) 128 (laterGroups 3 (at + 1) bs))
 
 pub number-moved : (xs d : List ℕ) (at : ℕ) → numberAt (xs ++ d) (length xs + at) ≡ movedNumber (length xs) (numberAt d at)
+unfolding numberAt
 number-moved xs d at = ap (numberOn (length xs + at)) (drop-append-add xs d at) ∙ on-moved (length xs) at (drop at d)
 
 module _ (xs d : List ℕ) where
@@ -123,6 +124,7 @@ module _ (xs d : List ℕ) where
 
   -- a record behind other bytes is the record that it is without them
   pub record-moved : (at : ℕ) → recordAt (xs ++ d) (length xs + at) ≡ moved (length xs) (recordAt d at)
+  unfolding recordAt
   record-moved at =
       ap (λ (t : Bool). cond t End (onNumber (numberAt (xs ++ d) (length xs + at)) (byKind (xs ++ d)))) (end-same at)
       ∙ ap (cond (leb (length d) at) End) (next-moved at (byKind (xs ++ d)) (byKind d) (λ kind next. kind-moved kind next))
@@ -174,6 +176,7 @@ module _ (ys : List ℕ) where
 
   -- a number that is read, or that is bad, stays so
   pub number-later : (d : List ℕ) (at : ℕ) → cutNumber (numberAt d at) ≡ false → numberAt (d ++ ys) at ≡ numberAt d at
+  unfolding numberAt
   number-later d at e =
       elim (decLe at (length d)) [
         yes h ↦ ap (numberOn at) (drop-append-le at d ys h) ∙ on-later at (drop at d) e
@@ -231,6 +234,7 @@ module _ (ys : List ℕ) where
 
   -- a record that is read, or that is bad, stays so whatever follows it
   pub record-later : (d : List ℕ) (at : ℕ) → undecided (recordAt d at) ≡ false → recordAt (d ++ ys) at ≡ recordAt d at
+  unfolding recordAt
   record-later d at = go (leb (length d) at) refl
     where
       go : (t : Bool) → leb (length d) at ≡ t → undecided (recordAt d at) ≡ false → recordAt (d ++ ys) at ≡ recordAt d at
@@ -244,10 +248,6 @@ module _ (ys : List ℕ) where
           ∙ ap (λ (t : Bool). cond t End (onNumber (numberAt d at) (byKind d))) (sym e)
 
 -- ---- how many bytes are enough
-
-by-test : {A : Type 0} (t : Bool) → (t ≡ true → A) → (t ≡ false → A) → A
-by-test true p q = p refl
-by-test false p q = q refl
 
 -- of a test that ends in what P says, the arm that was taken
 taken : {A : Type 0} (P : A → Bool) (t : Bool) (a b : A) → t ≡ true → P (cond t a b) ≡ true → P a ≡ true
@@ -290,6 +290,7 @@ on-short at (b ∷ bs) h =
 
 -- a number that is cut has at most four bytes
 pub number-short : (d : List ℕ) (at : ℕ) → cutNumber (numberAt d at) ≡ true → length d ≤ at + 4
+unfolding numberAt
 number-short d at h = let g = on-short at (drop at d) h in omega (arith, length-drop at d)
 
 on-number-short : {A : Type 0} (r : NumberRead) (rest : ℕ → ℕ → RecordRead) → undecided (onNumber r rest) ≡ true
@@ -350,6 +351,7 @@ module _ (d : List ℕ) (at : ℕ) (bytes : Bytes d) where
 
   -- where 71 bytes or more are left, a record is read or bad: no answer is End or More
   pub record-short : undecided (recordAt d at) ≡ true → length d < at + 71
+  unfolding recordAt
   record-short h =
       by-test (leb (length d) at)
       (λ e. let g : length d ≤ at = leb-true (length d) at e in omega arith)

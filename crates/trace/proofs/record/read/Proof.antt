@@ -1,7 +1,7 @@
 use mathlib.Core.Path.{refl}
 use borrow.Author.Tests.{lt-ltb, le-ltb, eq-eqb, ne-eqb, le-leb, lt-leb}
 use Rattle.laws.specs.Choice.{then, else}
-use Rattle.trace.specs.Records.{byKind}
+use Rattle.trace.specs.Records.{byKind, recordAt}
 use Rattle.trace.proofs.Arms.{at-number, at-fault, ends-inside}
 use borrow.Author.Needs.{needs}
 use Rattle.trace.proofs.record.read.Statement.{statement}
@@ -14,6 +14,7 @@ use Rattle.trace.proofs.record.faulty.Reads as faulty-reads
 
 -- src/record.rt:36:9
 returns : tie.Need-returns
+unfolding recordAt
 returns c = then _ _ _ _ (le-leb _ _ (c .if1 .taken)) refl
 
 -- src/record.rt:38:9
@@ -38,10 +39,12 @@ faulty-requires c κs = search needs
 
 -- src/record.rt:32:1
 returns-2 : tie.Need-returns-2
+unfolding recordAt
 returns-2 c = else _ _ _ _ (lt-leb _ _ (c .before .before .before .before .before .if1 .left)) (at-number (byKind (c .before .before .before .before .before .before .before .args .s .now)) (c .before .before .before .before .read .ensures) (c .before .before .kind .given .1) (c .by-kind .ensures))
 
 -- src/record.rt:32:1
 returns-3 : tie.Need-returns-3
+unfolding recordAt
 returns-3 c = else _ _ _ _ (lt-leb _ _ (c .before .before .before .before .before .if1 .left)) (at-fault (byKind (c .before .before .before .before .before .before .before .args .s .now)) (c .before .before .before .before .read .ensures) (c .before .before .kind2 .given .1) (c .faulty .ensures))
 
 pub read-spec : {M : Type 1} → statement M
