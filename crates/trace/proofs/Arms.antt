@@ -1,14 +1,14 @@
 -- The arms of a match on a number that was read.
-use Prim.Native.Nat.{ℕ, zero, suc, _+_, _-_, _≤_, _<_}
+use Prim.Native.Nat.{ℕ, zero, suc, _+_, _-_, _≤_}
 use native.Mathlib.Omega.{arith}
-use mathlib.Core.Path.{_≡_, refl, sym, ap, subst, _∙_}
+use mathlib.Core.Path.{_≡_, sym, ap, subst, _∙_}
 use mathlib.Core.Bool.{Bool, true, false, cond}
 use mathlib.Core.List.{List, [], _∷_}
 use lib.Dec.{ltb, eqb}
 use lib.ListN.{length, drop, length-drop}
 use native.Mathlib.Decide.{decLe}
 use Rattle.trace.specs.declared.Fault.{Fault}
-use Rattle.trace.specs.declared.Fault.the-variants.{Cut, NotShortest, TooLarge}
+use Rattle.trace.specs.declared.Fault.the-variants.{NotShortest, TooLarge}
 use Rattle.trace.specs.declared.number.NumberRead.{NumberRead}
 use Rattle.trace.specs.declared.number.NumberRead.the-variants.{Number, Bad}
 use Rattle.trace.specs.declared.record.RecordRead.{RecordRead}

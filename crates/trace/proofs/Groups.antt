@@ -1,9 +1,9 @@
 -- A turn of the loop over a number's groups, and the bounds of what it adds up.
 use Prim.Native.Nat.{ℕ, zero, suc, _+_, _-_, _*_, _^_, _<_, _≤_}
-use native.Mathlib.Nat.{mul-add, mul-assoc, add-assoc, mul-one, mul-le-mul-left, le-mul-of-pos-right, one-le-pow, pow-zero, pow-succ'}
+use native.Mathlib.Nat.{mul-add, mul-assoc, add-assoc, mul-one, mul-le-mul-left, le-mul-of-pos-right, one-le-pow, pow-succ'}
 use native.Mathlib.Omega.{arith}
 use mathlib.Core.Path.{_≡_, refl, sym, ap, _∙_}
-use mathlib.Core.List.{List, [], _∷_}
+use mathlib.Core.List.{List, _∷_}
 use lib.Dec.{ltb}
 use lib.ListN.{length, getD, drop}
 use borrow.Author.Tests.{lt-ltb, le-ltb}

@@ -1,12 +1,11 @@
 -- The numbers that 01, "Program", gives, and its edges: computed.
-use Prim.Native.Nat.{ℕ}
 use mathlib.Core.Path.{_≡_, refl}
-use mathlib.Core.List.{List, [], _∷_}
+use mathlib.Core.List.{[], _∷_}
 use Rattle.trace.specs.declared.Fault.the-variants.{Cut, NotShortest, TooLarge, Kind, Length}
 use Rattle.trace.specs.declared.number.NumberRead.the-variants.{Number, Bad}
 use Rattle.trace.specs.declared.record.RecordRead.the-variants as read
 use Rattle.trace.specs.Numbers.{numberAt, numberBytes, groupBytes}
-use Rattle.trace.specs.Records.{recordAt, recordBytes, reading, frame}
+use Rattle.trace.specs.Records.{recordAt, recordBytes, frame}
 
 -- 300 is AC 02
 pub number-300 : numberAt (0xAC ∷ 0x02 ∷ []) 0 ≡ Number 300 2

@@ -1,19 +1,17 @@
 -- What is written reads back, and only what is written reads: a number has one form.
 use Prim.Native.Nat.{ℕ, zero, suc, _+_, _-_, _*_, _/_, _%_, _^_, _<_, _≤_}
 use native.Mathlib.Nat.{one-le-pow}
-use native.Mathlib.Numerals.{add-one}
 use native.Mathlib.Omega.{arith}
 use native.Mathlib.Decide.{decLt}
 use mathlib.Core.Path.{_≡_, refl, sym, ap, subst, _∙_}
 use mathlib.Core.Bool.{Bool, true, false, cond}
 use mathlib.Core.List.{List, [], _∷_, _++_, append-assoc}
 use lib.Dec.{ltb, eqb}
-use lib.ListN.{length, getD, take, drop, length-append}
+use lib.ListN.{length, getD, drop}
 use lib.Seq.{drop-append-seam, drop-drop, getD-drop}
 use borrow.Author.Tests.{lt-ltb, le-ltb, ne-eqb, ltb-true, ltb-false, eqb-false}
 use Rattle.laws.specs.Choice.{then, else}
 use Rattle.trace.specs.declared.Fault.{Fault}
-use Rattle.trace.specs.declared.Fault.the-variants.{Cut, NotShortest, TooLarge}
 use Rattle.trace.specs.declared.number.NumberRead.{NumberRead}
 use Rattle.trace.specs.declared.number.NumberRead.the-variants.{Number, Bad}
 use Rattle.trace.specs.Numbers.{onto, lastGroup, laterGroups, numberOn, numberAt, groupBytes, numberBytes}

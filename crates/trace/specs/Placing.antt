@@ -5,17 +5,17 @@ use native.Mathlib.Numerals.{add-one}
 use native.Mathlib.Omega.{arith}
 use native.Mathlib.Decide.{decLe}
 use lib.Dec.{leb}
-use mathlib.Core.Bool.{Bool, true, false, not, cond}
+use mathlib.Core.Bool.{Bool, true, false, not}
 use borrow.Author.Tests.{le-leb, lt-leb, leb-true, not-true, not-false}
 use Rattle.laws.specs.Choice.{then, else}
 use mathlib.Core.Path.{_≡_, refl, sym, ap, _∙_}
 use mathlib.Core.List.{List, [], _∷_, _++_, append-assoc}
 use lib.ListN.{length, getD, set, take, drop, length-append, length-drop}
-use lib.Seq.{paste, paste-suc, length-paste, take-length, take-at, drop-at, drop-drop, drop-nil, length-take-le}
+use lib.Seq.{paste, paste-suc, length-paste, take-length, take-at, drop-at, drop-drop, length-take-le}
 use Rattle.trace.specs.declared.output.Written.{Written}
 use Rattle.trace.specs.declared.output.Written.the-variants.{Next, NoRoom, TooLong}
 use Rattle.trace.specs.Records.{Record, recordBytes}
-use Rattle.trace.specs.Outputs.{placed, Put, hasRoom, answerOf, outputOf, NumberWritten, tooLong, RecordWritten}
+use Rattle.trace.specs.Outputs.{placed, Put, hasRoom, NumberWritten, tooLong, RecordWritten}
 
 -- ---- the element that a list has at a place, by what is left from there on
 module _ {A : Type 0} where

@@ -1,14 +1,14 @@
 -- A record that is written reads back, and only a record that is written so reads.
-use Prim.Native.Nat.{ℕ, zero, suc, _+_, _-_, _<_, _≤_}
+use Prim.Native.Nat.{ℕ, _+_, _-_, _<_, _≤_}
 use native.Mathlib.Nat.{add-assoc}
 use native.Mathlib.Omega.{arith}
 use mathlib.Core.Path.{_≡_, refl, sym, ap, subst, _∙_}
-use mathlib.Core.Bool.{Bool, true, false, cond}
-use mathlib.Core.List.{List, [], _∷_, _++_, append-assoc}
+use mathlib.Core.Bool.{Bool, true, false, cond, false≢true}
+use mathlib.Core.List.{List, _++_, append-assoc}
 use lib.Dec.{ltb, leb, eqb}
 use lib.ListN.{length, take, drop, length-append, length-drop, take-append-drop}
-use lib.Seq.{drop-append-seam, take-append-seam, drop-drop, length-take-le}
-use borrow.Author.Tests.{lt-leb, le-ltb, leb-false, ltb-false, eqb-true}
+use lib.Seq.{drop-append-seam, take-append-seam, drop-drop, drop-at, length-take-le}
+use borrow.Author.Tests.{lt-leb, le-ltb, ltb-false, eqb-true}
 use Rattle.laws.specs.Choice.{else}
 use Rattle.trace.specs.declared.Fault.{Fault}
 use Rattle.trace.specs.declared.Fault.the-variants.{Cut, NotShortest, TooLarge, Kind, Length}
@@ -16,8 +16,9 @@ use Rattle.trace.specs.declared.number.NumberRead.{NumberRead}
 use Rattle.trace.specs.declared.number.NumberRead.the-variants as number
 use Rattle.trace.specs.declared.record.RecordRead.{RecordRead}
 use Rattle.trace.specs.declared.record.RecordRead.the-variants.{End, Reading, Frame, More, Bad}
-use Rattle.trace.specs.Numbers.{numberAt, numberBytes, groupBytes}
-use Rattle.trace.specs.Records.{faulted, onNumber, readingAt, bytesAt, lengthAt, frameAt, byKind, recordAt, Record, reading, frame, recordBytes, Good, Said, says, nothing, said}
+use Rattle.trace.specs.Numbers.{numberAt, numberBytes}
+use Rattle.trace.specs.Records.{faulted, onNumber, readingAt, bytesAt, lengthAt, frameAt, byKind, recordAt, Record, reading, frame, recordBytes, Good, says, nothing, said}
+use Rattle.trace.specs.Outputs.{placed}
 use Rattle.trace.specs.NumberLaws.{size-some}
 use Rattle.trace.specs.NumberTrips.{Bytes, number-at, Stands, number-stands}
 
@@ -225,3 +226,57 @@ module _ (d : List ℕ) (at : ℕ) (h : Bytes d) where
       (λ _ e₁.
       number-said d (numberAt d at) (byKind d) e₁
       (λ kind at₁ q e₂. kind-told kind at₁ (number-stands d at h q) e₂))
+
+-- what a writer put at a place is read there
+pub placed-back : (d : List ℕ) (at : ℕ) (x : Record) → Good x → at ≤ length d
+    → said (placed d at (recordBytes x)) (recordAt (placed d at (recordBytes x)) at) ≡ says x (at + length (recordBytes x))
+placed-back d at x g h =
+    let s : List ℕ = recordBytes x in
+    let rest : List ℕ = drop (at + length s) d in
+    says-at (placed d at s) at x rest g
+    (ap (drop at) (append-assoc (take at d) s rest) ∙ drop-at (take at d) (s ++ rest) at (length-take-le at d h))
+
+-- ---- a cut is never a bad record
+
+abbrev badCut : RecordRead → Bool
+badCut (Bad Cut) = true
+badCut (Bad NotShortest) = false
+badCut (Bad TooLarge) = false
+badCut (Bad Kind) = false
+badCut (Bad Length) = false
+badCut End = false
+badCut More = false
+badCut (Reading value next) = false
+badCut (Frame identifier start n next) = false
+
+uncut-test : (t : Bool) (a b : RecordRead) → badCut a ≡ false → badCut b ≡ false → badCut (cond t a b) ≡ false
+uncut-test true a b p q = p
+uncut-test false a b p q = q
+
+uncut-number : (r : NumberRead) (rest : ℕ → ℕ → RecordRead) → ((n next : ℕ) → badCut (rest n next) ≡ false) → badCut (onNumber r rest) ≡ false
+uncut-number (number.Number n next) rest h = h n next
+uncut-number (number.Bad Cut) rest h = refl
+uncut-number (number.Bad NotShortest) rest h = refl
+uncut-number (number.Bad TooLarge) rest h = refl
+uncut-number (number.Bad Kind) rest h = refl
+uncut-number (number.Bad Length) rest h = refl
+
+uncut : (d : List ℕ) (at : ℕ) → badCut (recordAt d at) ≡ false
+unfolding recordAt
+uncut d at =
+    uncut-test (leb (length d) at) End (onNumber (numberAt d at) (byKind d)) refl
+    (uncut-number (numberAt d at) (byKind d)
+    (λ kind at₁.
+    uncut-test (eqb kind 0) (readingAt d at₁) (cond (eqb kind 1) (frameAt d at₁) (Bad Kind))
+    (uncut-number (numberAt d at₁) Reading (λ n next. refl))
+    (uncut-test (eqb kind 1) (frameAt d at₁) (Bad Kind)
+    (uncut-number (numberAt d at₁) (lengthAt d)
+    (λ identifier at₂.
+    uncut-number (numberAt d at₂) (bytesAt (length d) identifier)
+    (λ n start.
+    uncut-test (ltb 64 n) (Bad Length) (cond (ltb (length d - start) n) More (Frame identifier start n (start + n))) refl
+    (uncut-test (ltb (length d - start) n) More (Frame identifier start n (start + n)) refl refl))))
+    refl)))
+
+pub never-cut : (d : List ℕ) (at : ℕ) → recordAt d at ≡ Bad Cut → ⊥
+never-cut d at e = false≢true (sym (uncut d at) ∙ ap badCut e)

@@ -4,13 +4,13 @@ use Prim.Native.Nat.{ℕ, zero, suc, _+_, _-_, _<_, _≤_}
 use native.Mathlib.Nat.{add-assoc}
 use native.Mathlib.Omega.{arith}
 use native.Mathlib.Decide.{decLe}
-use mathlib.Core.Path.{_≡_, refl, sym, ap, subst, _∙_}
+use mathlib.Core.Path.{_≡_, refl, sym, ap, _∙_}
 use mathlib.Core.Bool.{Bool, true, false, cond, false≢true}
 use mathlib.Core.List.{List, [], _∷_, _++_}
 use lib.Dec.{ltb, leb, eqb}
-use lib.ListN.{length, take, drop, length-append, length-drop, drop-of-length-le}
+use lib.ListN.{length, drop, length-append, length-drop, drop-of-length-le}
 use lib.Seq.{drop-append-add, drop-append-le}
-use borrow.Author.Tests.{le-leb, lt-leb, le-ltb, lt-ltb, leb-true, leb-false, ltb-true, ltb-false, eqb-true}
+use borrow.Author.Tests.{le-leb, lt-leb, le-ltb, leb-true, leb-false, ltb-true, ltb-false, eqb-true}
 use Rattle.trace.specs.declared.Fault.{Fault}
 use Rattle.trace.specs.declared.Fault.the-variants.{Cut, NotShortest, TooLarge, Kind, Length}
 use Rattle.trace.specs.declared.number.NumberRead.{NumberRead}
@@ -58,9 +58,9 @@ module _ (k : ℕ) where
   later-moved (suc more) at (b ∷ bs) =
       ap (λ (z : NumberRead). cond (ltb b 128) z (onto (b - 128) 128 (laterGroups more (k + at + 1) bs))) (last-moved at b)
       ∙ ap (cond (ltb b 128) (movedNumber k (lastGroup at b)))
-        (ap (λ (p : ℕ). onto (b - 128) 128 (laterGroups more p bs)) (add-assoc k at 1)
-        ∙ ap (onto (b - 128) 128) (later-moved more (at + 1) bs)
-        ∙ onto-moved (b - 128) 128 (laterGroups more (at + 1) bs))
+      (ap (λ (p : ℕ). onto (b - 128) 128 (laterGroups more p bs)) (add-assoc k at 1)
+      ∙ ap (onto (b - 128) 128) (later-moved more (at + 1) bs)
+      ∙ onto-moved (b - 128) 128 (laterGroups more (at + 1) bs))
       ∙ over-cond (movedNumber k) (ltb b 128) (lastGroup at b) (onto (b - 128) 128 (laterGroups more (at + 1) bs))
 
   on-moved : (at : ℕ) (l : List ℕ) → numberOn (k + at) l ≡ movedNumber k (numberOn at l)
@@ -68,9 +68,9 @@ module _ (k : ℕ) where
   on-moved at (b ∷ bs) =
       ap (λ (p : ℕ). cond (ltb b 128) (number.Number b p) (onto (b - 128) 128 (laterGroups 3 (k + at + 1) bs))) (add-assoc k at 1)
       ∙ ap (cond (ltb b 128) (number.Number b (k + (at + 1))))
-        (ap (λ (p : ℕ). onto (b - 128) 128 (laterGroups 3 p bs)) (add-assoc k at 1)
-        ∙ ap (onto (b - 128) 128) (later-moved 3 (at + 1) bs)
-        ∙ onto-moved (b - 128) 128 (laterGroups 3 (at + 1) bs))
+      (ap (λ (p : ℕ). onto (b - 128) 128 (laterGroups 3 p bs)) (add-assoc k at 1)
+      ∙ ap (onto (b - 128) 128) (later-moved 3 (at + 1) bs)
+      ∙ onto-moved (b - 128) 128 (laterGroups 3 (at + 1) bs))
       ∙ over-cond (movedNumber k) (ltb b 128) (number.Number b (at + 1)) (onto (b - 128) 128 (laterGroups 3 (at + 1) bs))
 
 pub number-moved : (xs d : List ℕ) (at : ℕ) → numberAt (xs ++ d) (length xs + at) ≡ movedNumber (length xs) (numberAt d at)
@@ -100,7 +100,7 @@ module _ (xs d : List ℕ) where
       let left : length (xs ++ d) - (length xs + start) ≡ length d - start = omega (arith, length-append xs d) in
       ap (λ (k : ℕ). cond (ltb 64 n) (Bad Length) (cond (ltb k n) More (Frame identifier (length xs + start) n (length xs + start + n)))) left
       ∙ ap (λ (k : ℕ). cond (ltb 64 n) (Bad Length) (cond (ltb (length d - start) n) More (Frame identifier (length xs + start) n k)))
-        (add-assoc (length xs) start n)
+      (add-assoc (length xs) start n)
       ∙ ap (cond (ltb 64 n) (Bad Length)) (over-cond (moved (length xs)) (ltb (length d - start) n) More (Frame identifier start n (start + n)))
       ∙ over-cond (moved (length xs)) (ltb 64 n) (Bad Length) (cond (ltb (length d - start) n) More (Frame identifier start n (start + n)))
 
@@ -109,17 +109,17 @@ module _ (xs d : List ℕ) where
       ap (λ (z : RecordRead). cond (eqb kind 0) z (cond (eqb kind 1) (frameAt (xs ++ d) (length xs + at)) (Bad Kind)))
       (next-moved at Reading Reading (λ n next. refl))
       ∙ ap (λ (z : RecordRead). cond (eqb kind 0) (moved (length xs) (readingAt d at)) (cond (eqb kind 1) z (Bad Kind)))
-        (next-moved at (lengthAt (xs ++ d)) (lengthAt d)
-        (λ identifier next.
-          next-moved next (bytesAt (length (xs ++ d)) identifier) (bytesAt (length d) identifier) (λ n start. bytes-moved identifier n start)))
+      (next-moved at (lengthAt (xs ++ d)) (lengthAt d)
+      (λ identifier next.
+      next-moved next (bytesAt (length (xs ++ d)) identifier) (bytesAt (length d) identifier) (λ n start. bytes-moved identifier n start)))
       ∙ ap (cond (eqb kind 0) (moved (length xs) (readingAt d at))) (over-cond (moved (length xs)) (eqb kind 1) (frameAt d at) (Bad Kind))
       ∙ over-cond (moved (length xs)) (eqb kind 0) (readingAt d at) (cond (eqb kind 1) (frameAt d at) (Bad Kind))
 
   end-same : (at : ℕ) → leb (length (xs ++ d)) (length xs + at) ≡ leb (length d) at
   end-same at =
       elim (decLe (length d) at) [
-        yes h ↦ le-leb (length (xs ++ d)) (length xs + at) (omega (arith, length-append xs d)) ∙ sym (le-leb (length d) at h)
-      | no h ↦ lt-leb (length (xs ++ d)) (length xs + at) (omega (arith, length-append xs d)) ∙ sym (lt-leb (length d) at (omega arith))
+        | yes h ↦ le-leb (length (xs ++ d)) (length xs + at) (omega (arith, length-append xs d)) ∙ sym (le-leb (length d) at h)
+        | no h ↦ lt-leb (length (xs ++ d)) (length xs + at) (omega (arith, length-append xs d)) ∙ sym (lt-leb (length d) at (omega arith))
       ]
 
   -- a record behind other bytes is the record that it is without them
@@ -179,8 +179,8 @@ module _ (ys : List ℕ) where
   unfolding numberAt
   number-later d at e =
       elim (decLe at (length d)) [
-        yes h ↦ ap (numberOn at) (drop-append-le at d ys h) ∙ on-later at (drop at d) e
-      | no h ↦ contrary (ap (λ (l : List ℕ). cutNumber (numberOn at l)) (sym (drop-of-length-le d {i = at} (omega arith))) ∙ e)
+        | yes h ↦ ap (numberOn at) (drop-append-le at d ys h) ∙ on-later at (drop at d) e
+        | no h ↦ contrary (ap (λ (l : List ℕ). cutNumber (numberOn at l)) (sym (drop-of-length-le d {i = at} (omega arith))) ∙ e)
       ]
 
   -- the number that comes next in a record, where the record is decided
@@ -197,6 +197,7 @@ module _ (ys : List ℕ) where
       whole (number.Bad TooLarge) g = refl
       whole (number.Bad Kind) g = refl
       whole (number.Bad Length) g = refl
+
       same : (r : NumberRead) → undecided (onNumber r rest) ≡ false → onNumber r rest′ ≡ onNumber r rest
       same (number.Number n next) g = h n next g
       same (number.Bad f) g = refl
@@ -213,6 +214,7 @@ module _ (ys : List ℕ) where
     where
       part : ℕ → RecordRead
       part size = cond (ltb (size - start) n) More (Frame identifier start n (start + n))
+
       room : (t : Bool) → ltb (length d - start) n ≡ t → undecided (cond (ltb (length d - start) n) More (Frame identifier start n (start + n))) ≡ false
           → part (length (d ++ ys)) ≡ part (length d)
       room true e g = contrary (ap (λ (t : Bool). undecided (cond t More (Frame identifier start n (start + n)))) (sym e) ∙ g)
@@ -229,7 +231,7 @@ module _ (ys : List ℕ) where
       (tests-later (eqb kind 1) (frameAt d at) (frameAt (d ++ ys) at) (Bad Kind) (Bad Kind)
       (on-number-later d at (lengthAt d) (lengthAt (d ++ ys))
       (λ identifier next.
-        on-number-later d next (bytesAt (length d) identifier) (bytesAt (length (d ++ ys)) identifier) (λ n start. bytes-later d identifier n start)))
+      on-number-later d next (bytesAt (length d) identifier) (bytesAt (length (d ++ ys)) identifier) (λ n start. bytes-later d identifier n start)))
       (λ _. refl))
 
   -- a record that is read, or that is bad, stays so whatever follows it
@@ -244,7 +246,7 @@ module _ (ys : List ℕ) where
           let far : leb (length (d ++ ys)) at ≡ false = lt-leb (length (d ++ ys)) at (omega (arith, length-append d ys)) in
           ap (λ (t : Bool). cond t End (onNumber (numberAt (d ++ ys) at) (byKind (d ++ ys)))) far
           ∙ on-number-later d at (byKind d) (byKind (d ++ ys)) (λ kind next. kind-later d kind next)
-            (ap (λ (t : Bool). undecided (cond t End (onNumber (numberAt d at) (byKind d)))) (sym e) ∙ g)
+          (ap (λ (t : Bool). undecided (cond t End (onNumber (numberAt d at) (byKind d)))) (sym e) ∙ g)
           ∙ ap (λ (t : Bool). cond t End (onNumber (numberAt d at) (byKind d))) (sym e)
 
 -- ---- how many bytes are enough
@@ -273,9 +275,9 @@ later-short (suc more) at (b ∷ bs) h =
     by-test (ltb b 128)
     (λ e. last-whole at b (taken cutNumber (ltb b 128) (lastGroup at b) (onto (b - 128) 128 up) e h))
     (λ e.
-      let short : length bs ≤ more =
-      later-short more (at + 1) bs (sym (onto-cut (b - 128) 128 up) ∙ left cutNumber (ltb b 128) (lastGroup at b) (onto (b - 128) 128 up) e h) in
-      omega arith)
+    let short : length bs ≤ more =
+    later-short more (at + 1) bs (sym (onto-cut (b - 128) 128 up) ∙ left cutNumber (ltb b 128) (lastGroup at b) (onto (b - 128) 128 up) e h) in
+    omega arith)
 
 on-short : (at : ℕ) (l : List ℕ) → cutNumber (numberOn at l) ≡ true → length l ≤ 4
 on-short at [] h = omega arith
@@ -284,9 +286,9 @@ on-short at (b ∷ bs) h =
     by-test (ltb b 128)
     (λ e. contrary (sym (taken cutNumber (ltb b 128) (number.Number b (at + 1)) (onto (b - 128) 128 up) e h)))
     (λ e.
-      let short : length bs ≤ 3 =
-      later-short 3 (at + 1) bs (sym (onto-cut (b - 128) 128 up) ∙ left cutNumber (ltb b 128) (number.Number b (at + 1)) (onto (b - 128) 128 up) e h) in
-      omega arith)
+    let short : length bs ≤ 3 =
+    later-short 3 (at + 1) bs (sym (onto-cut (b - 128) 128 up) ∙ left cutNumber (ltb b 128) (number.Number b (at + 1)) (onto (b - 128) 128 up) e h) in
+    omega arith)
 
 -- a number that is cut has at most four bytes
 pub number-short : (d : List ℕ) (at : ℕ) → cutNumber (numberAt d at) ≡ true → length d ≤ at + 4
@@ -311,12 +313,12 @@ module _ (d : List ℕ) (at : ℕ) (bytes : Bytes d) where
       by-test (ltb 64 n)
       (λ e. contrary (sym (taken undecided (ltb 64 n) (Bad Length) rest e h)))
       (λ e.
-        let few : n ≤ 64 = ltb-false 64 n e in
-        let start-low = s .place in
-        let one : length (numberBytes n) ≡ 1 = size-one n (omega arith) in
-        by-test (ltb (length d - start) n)
-        (λ e₁. let g : length d - start < n = ltb-true (length d - start) n e₁ in omega arith)
-        (λ e₁. contrary (sym (left undecided (ltb (length d - start) n) More frame e₁ (left undecided (ltb 64 n) (Bad Length) rest e h)))))
+      let few : n ≤ 64 = ltb-false 64 n e in
+      let start-low = s .place in
+      let one : length (numberBytes n) ≡ 1 = size-one n (omega arith) in
+      by-test (ltb (length d - start) n)
+      (λ e₁. let g : length d - start < n = ltb-true (length d - start) n e₁ in omega arith)
+      (λ e₁. contrary (sym (left undecided (ltb (length d - start) n) More frame e₁ (left undecided (ltb 64 n) (Bad Length) rest e h)))))
 
   length-short : (identifier at₁ at₂ : ℕ) → at₁ ≡ at + 1 → Stands d at₁ identifier at₂ → undecided (lengthAt d identifier at₂) ≡ true
       → length d < at + 71
@@ -333,21 +335,21 @@ module _ (d : List ℕ) (at : ℕ) (bytes : Bytes d) where
       let rest : RecordRead = cond (eqb kind 1) (frameAt d at₁) (Bad Kind) in
       by-test (eqb kind 0)
       (λ e.
-        let zero-kind : kind ≡ 0 = eqb-true kind 0 e in
-        let one : length (numberBytes kind) ≡ 1 = size-one kind (omega arith) in
-        on-number-short (numberAt d at₁) Reading (taken undecided (eqb kind 0) (readingAt d at₁) rest e h)
-        (λ c. let g = number-short d at₁ c in omega arith)
-        (λ n next q h₁. contrary (sym h₁)))
+      let zero-kind : kind ≡ 0 = eqb-true kind 0 e in
+      let one : length (numberBytes kind) ≡ 1 = size-one kind (omega arith) in
+      on-number-short (numberAt d at₁) Reading (taken undecided (eqb kind 0) (readingAt d at₁) rest e h)
+      (λ c. let g = number-short d at₁ c in omega arith)
+      (λ n next q h₁. contrary (sym h₁)))
       (λ e.
-        let h₁ : undecided rest ≡ true = left undecided (eqb kind 0) (readingAt d at₁) rest e h in
-        by-test (eqb kind 1)
-        (λ e₁.
-          let one-kind : kind ≡ 1 = eqb-true kind 1 e₁ in
-          let one : length (numberBytes kind) ≡ 1 = size-one kind (omega arith) in
-          on-number-short (numberAt d at₁) (lengthAt d) (taken undecided (eqb kind 1) (frameAt d at₁) (Bad Kind) e₁ h₁)
-          (λ c. let g = number-short d at₁ c in omega arith)
-          (λ identifier at₂ q h₂. length-short identifier at₁ at₂ (omega arith) (number-stands d at₁ bytes q) h₂))
-        (λ e₁. contrary (sym (left undecided (eqb kind 1) (frameAt d at₁) (Bad Kind) e₁ h₁))))
+      let h₁ : undecided rest ≡ true = left undecided (eqb kind 0) (readingAt d at₁) rest e h in
+      by-test (eqb kind 1)
+      (λ e₁.
+      let one-kind : kind ≡ 1 = eqb-true kind 1 e₁ in
+      let one : length (numberBytes kind) ≡ 1 = size-one kind (omega arith) in
+      on-number-short (numberAt d at₁) (lengthAt d) (taken undecided (eqb kind 1) (frameAt d at₁) (Bad Kind) e₁ h₁)
+      (λ c. let g = number-short d at₁ c in omega arith)
+      (λ identifier at₂ q h₂. length-short identifier at₁ at₂ (omega arith) (number-stands d at₁ bytes q) h₂))
+      (λ e₁. contrary (sym (left undecided (eqb kind 1) (frameAt d at₁) (Bad Kind) e₁ h₁))))
 
   -- where 71 bytes or more are left, a record is read or bad: no answer is End or More
   pub record-short : undecided (recordAt d at) ≡ true → length d < at + 71
@@ -356,6 +358,6 @@ module _ (d : List ℕ) (at : ℕ) (bytes : Bytes d) where
       by-test (leb (length d) at)
       (λ e. let g : length d ≤ at = leb-true (length d) at e in omega arith)
       (λ e.
-        on-number-short (numberAt d at) (byKind d) (left undecided (leb (length d) at) End (onNumber (numberAt d at) (byKind d)) e h)
-        (λ c. let g = number-short d at c in omega arith)
-        (λ kind at₁ q h₁. kind-short kind at₁ (number-stands d at bytes q) h₁))
+      on-number-short (numberAt d at) (byKind d) (left undecided (leb (length d) at) End (onNumber (numberAt d at) (byKind d)) e h)
+      (λ c. let g = number-short d at c in omega arith)
+      (λ kind at₁ q h₁. kind-short kind at₁ (number-stands d at bytes q) h₁))

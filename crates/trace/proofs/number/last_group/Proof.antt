@@ -5,26 +5,19 @@ use Rattle.trace.specs.Numbers.{onto}
 use borrow.Author.Needs.{needs}
 use Rattle.trace.proofs.number.last_group.Statement.{statement}
 use Rattle.trace.proofs.number.last_group.Tie as tie
-use Rattle.trace.proofs.number.last_group.Reads as reads
-use Rattle.trace.proofs.number.last_group.Lts as lts
 
--- src/number.rt:80:9
 returns : tie.Need-returns
 returns c = ap (onto (c .before .args .value) (c .before .args .scale)) (then _ _ _ _ (eq-eqb _ _ (c .if1 .taken)) refl)
 
--- src/number.rt:82:32
 mul-t7 : tie.Need-mul-t7
 mul-t7 c = search needs
 
--- src/number.rt:82:24
 add-t8 : tie.Need-add-t8
 add-t8 c = search needs
 
--- src/number.rt:82:43
 add-t9 : tie.Need-add-t9
 add-t9 c = search needs
 
--- src/number.rt:75:1
 returns-2 : tie.Need-returns-2
 returns-2 c = ap (onto (c .before .args .value) (c .before .args .scale)) (else _ _ _ _ (ne-eqb _ _ (c .if1 .left)) refl)
 

@@ -1,17 +1,12 @@
-use Prim.Native.Nat.{ℕ, _+_, _*_, _-_, _≤_, _<_}
-use mathlib.Core.Path.{_≡_, refl, sym, ap, _∙_}
+use Prim.Native.Nat.{_-_, _≤_, _<_}
+use mathlib.Core.Path.{_≡_, refl, _∙_}
 use native.Mathlib.Omega.{arith}
-use lib.ListN.{length, drop}
+use lib.ListN.{drop}
 use Rattle.trace.specs.Numbers.{onto, laterGroups}
 use Rattle.trace.proofs.Groups.{cut, last, next, fifth-on, Scaled, scaled-next, scaled-low, scaled-last, group-low}
 use borrow.Author.Needs.{needs}
 use Rattle.trace.proofs.number.later_groups.Statement.{statement}
 use Rattle.trace.proofs.number.later_groups.Tie as tie
-use Rattle.trace.proofs.number.later_groups.Reads as reads
-use Rattle.trace.proofs.number.later_groups.Lts as lts
-use Rattle.trace.proofs.number.fifth_group.Reads as fifth-group-reads
-use Rattle.trace.proofs.number.last_group.Reads as last-group-reads
-use Rattle.trace.proofs.number.wide.Reads as wide-reads
 
 abbrev Inv-loop : tie.InvT-loop
 Inv-loop s start low value₀ scale₀ at₀ more₀ value scale at more =
@@ -20,63 +15,48 @@ Inv-loop s start low value₀ scale₀ at₀ more₀ value scale at more =
 abbrev μ-loop : tie.MeasureT-loop
 μ-loop s start low value₀ scale₀ at₀ more₀ value scale at more = more
 
--- src/number.rt:43:5
 loop-holds : tie.Need-loop-holds Inv-loop μ-loop
 loop-holds c = (search needs, search needs, refl, refl)
 
--- src/number.rt:45:13
 returns : tie.Need-returns Inv-loop μ-loop
 returns c = cut (c .before .before .before .before .args .s .now) (c .before .before .loop .at) (c .before .before .loop .value) (c .before .before .loop .scale) (c .before .before .loop .more) (c .if1 .taken) ∙ c .before .before .loop .inv .3
 
--- src/number.rt:47:22
 shared-slice-read-wide : tie.Need-shared-slice-read-wide Inv-loop μ-loop
 shared-slice-read-wide c = search needs
 
--- src/number.rt:47:13
 wide-requires : tie.Need-wide-requires Inv-loop μ-loop
 wide-requires c κs = search needs
 
--- src/number.rt:49:13
 last-group-requires : tie.Need-last-group-requires Inv-loop μ-loop
 last-group-requires c κs = (search needs, omega (arith, group-low (c .before .before .before .before .before .loop .value) (c .before .before .before .before .before .loop .scale) (c .before .wide .result) (search needs) (c .if2 .taken), scaled-low _ _ (scaled-next (c .before .before .before .before .before .loop .scale) (c .before .before .before .before .before .loop .more) (c .before .before .before .before .loop-test .taken) (c .before .before .before .before .before .loop .inv .2))))
 
--- src/number.rt:49:13
 returns-2 : tie.Need-returns-2 Inv-loop μ-loop
 returns-2 c = c .last-group .ensures ∙ last (c .before .before .before .before .before .before .before .before .args .s .now) (c .before .before .before .before .before .before .loop .at) (c .before .before .before .before .before .before .loop .value) (c .before .before .before .before .before .before .loop .scale) (c .before .before .wide .result) (c .before .before .before .before .if1 .left) (c .before .before .wide .ensures .0) (c .before .before .before .before .before .before .loop .more) (c .before .before .before .before .before .loop-test .taken) (c .before .if2 .taken) ∙ c .before .before .before .before .before .before .loop .inv .3
 
--- src/number.rt:51:25
 mul-value : tie.Need-mul-value Inv-loop μ-loop
 mul-value c = omega (arith, group-low (c .before .before .before .before .before .loop .value) (c .before .before .before .before .before .loop .scale) (c .before .wide .result - 128) (search needs) (omega arith), scaled-low _ _ (scaled-next (c .before .before .before .before .before .loop .scale) (c .before .before .before .before .before .loop .more) (c .before .before .before .before .loop-test .taken) (c .before .before .before .before .before .loop .inv .2)))
 
--- src/number.rt:51:17
 add-value : tie.Need-add-value Inv-loop μ-loop
 add-value c = omega (arith, group-low (c .before .before .before .before .before .loop .value) (c .before .before .before .before .before .loop .scale) (c .before .wide .result - 128) (search needs) (omega arith), scaled-low _ _ (scaled-next (c .before .before .before .before .before .loop .scale) (c .before .before .before .before .before .loop .more) (c .before .before .before .before .loop-test .taken) (c .before .before .before .before .before .loop .inv .2)))
 
--- src/number.rt:52:17
 mul-scale : tie.Need-mul-scale Inv-loop μ-loop
 mul-scale c = omega (arith, scaled-low _ _ (scaled-next (c .before .before .before .before .before .loop .scale) (c .before .before .before .before .before .loop .more) (c .before .before .before .before .loop-test .taken) (c .before .before .before .before .before .loop .inv .2)))
 
--- src/number.rt:53:14
 add-at : tie.Need-add-at Inv-loop μ-loop
 add-at c = search needs
 
--- src/number.rt:54:16
 sub-more : tie.Need-sub-more Inv-loop μ-loop
 sub-more c = search needs
 
--- src/number.rt:43:5
 loop-less : tie.Need-loop-less Inv-loop μ-loop
 loop-less c = search needs
 
--- src/number.rt:43:5
 loop-again : tie.Need-loop-again Inv-loop μ-loop
 loop-again c = (group-low (c .before .before .before .before .before .loop .value) (c .before .before .before .before .before .loop .scale) (c .before .wide .result - 128) (search needs) (omega arith), search needs, scaled-next (c .before .before .before .before .before .loop .scale) (c .before .before .before .before .before .loop .more) (c .before .before .before .before .loop-test .taken) (c .before .before .before .before .before .loop .inv .2), next (c .before .before .before .before .before .before .before .args .s .now) (c .before .before .before .before .before .loop .at) (c .before .before .before .before .before .loop .value) (c .before .before .before .before .before .loop .scale) (c .before .wide .result) (c .before .before .before .if1 .left) (c .before .wide .ensures .0) (c .before .before .before .before .before .loop .more) (c .before .before .before .before .loop-test .taken) (c .if2 .left) ∙ c .before .before .before .before .before .loop .inv .3)
 
--- src/number.rt:56:5
 fifth-group-requires : tie.Need-fifth-group-requires Inv-loop μ-loop
 fifth-group-requires c κs = omega (arith, scaled-last (c .before .loop .scale) (c .before .loop .more) (c .loop-test .left) (c .before .loop .inv .2))
 
--- src/number.rt:35:1
 returns-3 : tie.Need-returns-3 Inv-loop μ-loop
 returns-3 c = c .fifth-group .ensures ∙ fifth-on (c .before .before .before .before .args .s .now) (c .before .before .loop .at) (c .before .before .loop .value) (c .before .before .loop .scale) (c .before .before .loop .more) (c .before .loop-test .left) (c .before .before .loop .inv .2) ∙ c .before .before .loop .inv .3
 

@@ -1,17 +1,15 @@
-use Prim.Native.Nat.{ℕ, _+_, _*_, _/_, _%_, _-_, _≤_, _<_}
-use mathlib.Core.Path.{_≡_, refl, sym, ap, _∙_}
+use Prim.Native.Nat.{_+_, _-_}
+use mathlib.Core.Path.{_≡_, refl, _∙_}
 use mathlib.Core.List.{[]}
 use native.Mathlib.Omega.{arith}
-use lib.ListN.{length, getD, drop, length-set}
-use lib.Seq.{paste, paste-zero, drop-cons}
+use lib.ListN.{length, drop, length-set}
+use lib.Seq.{paste, paste-zero}
 use Rattle.trace.specs.Numbers.{numberBytes, groupBytes}
 use Rattle.trace.specs.NumberLaws.{Held, next-left, next-held, next-low, last-left, all-left}
 use Rattle.trace.specs.Placing.{store-turn, stored, left-inside, left-next, left-last}
 use borrow.Author.Needs.{needs}
 use Rattle.trace.proofs.number.put.Statement.{statement}
 use Rattle.trace.proofs.number.put.Tie as tie
-use Rattle.trace.proofs.number.put.Reads as reads
-use Rattle.trace.proofs.number.put.Lts as lts
 
 abbrev Inv-loop : tie.InvT-loop
 Inv-loop out₀ at n i₀ rest₀ out i rest =
@@ -20,63 +18,48 @@ Inv-loop out₀ at n i₀ rest₀ out i rest =
 abbrev μ-loop : tie.MeasureT-loop
 μ-loop out₀ at n i₀ rest₀ out i rest = rest
 
--- src/number.rt:114:5
 loop-holds : tie.Need-loop-holds Inv-loop μ-loop
 loop-holds c = (search needs, all-left (c .args .n), refl, paste-zero (c .args .out .now) (c .args .at) (numberBytes (c .args .n)))
 
--- src/number.rt:115:24
 add-out : tie.Need-add-out Inv-loop μ-loop
 add-out c = search needs
 
--- src/number.rt:115:23
 cast-out : tie.Need-cast-out Inv-loop μ-loop
 cast-out c = search needs
 
--- src/number.rt:115:13
 add-out-2 : tie.Need-add-out-2 Inv-loop μ-loop
 add-out-2 c = omega (arith, left-inside (numberBytes (c .before .before .args .n)) (c .before .loop .i) (next-left (c .before .loop .i) (c .before .loop .rest) (numberBytes (c .before .before .args .n)) (c .loop-test .taken) (c .before .loop .inv .0) (c .before .loop .inv .1)))
 
--- src/number.rt:115:9
 slice-write-out : tie.Need-slice-write-out Inv-loop μ-loop
 slice-write-out c = omega (arith, left-inside (numberBytes (c .before .before .args .n)) (c .before .loop .i) (next-left (c .before .loop .i) (c .before .loop .rest) (numberBytes (c .before .before .args .n)) (c .loop-test .taken) (c .before .loop .inv .0) (c .before .loop .inv .1)))
 
--- src/number.rt:117:13
 add-i : tie.Need-add-i Inv-loop μ-loop
 add-i c = omega (arith, next-low (c .before .loop .i) (c .before .loop .rest) [] (c .loop-test .taken) (c .before .loop .inv .0))
 
--- src/number.rt:114:5
 loop-less : tie.Need-loop-less Inv-loop μ-loop
 loop-less c = search needs
 
--- src/number.rt:114:5
 loop-again : tie.Need-loop-again Inv-loop μ-loop
 loop-again c = (next-held (c .before .loop .i) (c .before .loop .rest) [] (c .loop-test .taken) (c .before .loop .inv .0), left-next (numberBytes (c .before .before .args .n)) (c .before .loop .i) (next-left (c .before .loop .i) (c .before .loop .rest) (numberBytes (c .before .before .args .n)) (c .loop-test .taken) (c .before .loop .inv .0) (c .before .loop .inv .1)), simp length-set (c .before .loop .inv .2), store-turn (c .before .before .args .out .now) (c .before .before .args .at) (numberBytes (c .before .before .args .n)) (c .before .loop .i) (next-left (c .before .loop .i) (c .before .loop .rest) (numberBytes (c .before .before .args .n)) (c .loop-test .taken) (c .before .loop .inv .0) (c .before .loop .inv .1)) (c .before .before .pre) (c .before .loop .inv .3))
 
--- src/number.rt:119:19
 cast-out-2 : tie.Need-cast-out-2 Inv-loop μ-loop
 cast-out-2 c = search needs
 
--- src/number.rt:119:9
 add-out-3 : tie.Need-add-out-3 Inv-loop μ-loop
 add-out-3 c = omega (arith, left-inside (numberBytes (c .before .before .args .n)) (c .before .loop .i) (last-left (c .before .loop .i) (c .before .loop .rest) (numberBytes (c .before .before .args .n)) (c .loop-test .left) (c .before .loop .inv .1)))
 
--- src/number.rt:119:5
 slice-write-out-2 : tie.Need-slice-write-out-2 Inv-loop μ-loop
 slice-write-out-2 c = omega (arith, left-inside (numberBytes (c .before .before .args .n)) (c .before .loop .i) (last-left (c .before .loop .i) (c .before .loop .rest) (numberBytes (c .before .before .args .n)) (c .loop-test .left) (c .before .loop .inv .1)))
 
--- src/number.rt:120:5
 add-result : tie.Need-add-result Inv-loop μ-loop
 add-result c = omega (arith, left-inside (numberBytes (c .before .before .args .n)) (c .before .loop .i) (last-left (c .before .loop .i) (c .before .loop .rest) (numberBytes (c .before .before .args .n)) (c .loop-test .left) (c .before .loop .inv .1)))
 
--- src/number.rt:120:5
 add-result-2 : tie.Need-add-result-2 Inv-loop μ-loop
 add-result-2 c = omega (arith, left-inside (numberBytes (c .before .before .args .n)) (c .before .loop .i) (last-left (c .before .loop .i) (c .before .loop .rest) (numberBytes (c .before .before .args .n)) (c .loop-test .left) (c .before .loop .inv .1)))
 
--- src/number.rt:108:1
 same-length : tie.Need-same-length Inv-loop μ-loop
 same-length c = simp length-set (c .before .loop .inv .2)
 
--- src/number.rt:108:1
 returns : tie.Need-returns Inv-loop μ-loop
 returns c = let e = last-left (c .before .loop .i) (c .before .loop .rest) (numberBytes (c .before .before .args .n)) (c .loop-test .left) (c .before .loop .inv .1) in record { place = omega (arith, left-last (numberBytes (c .before .before .args .n)) (c .before .loop .i) e); bytes = store-turn (c .before .before .args .out .now) (c .before .before .args .at) (numberBytes (c .before .before .args .n)) (c .before .loop .i) e (c .before .before .pre) (c .before .loop .inv .3) ∙ stored (c .before .before .args .out .now) (c .before .before .args .at) (numberBytes (c .before .before .args .n)) (c .before .loop .i + 1) (left-last (numberBytes (c .before .before .args .n)) (c .before .loop .i) e) }
 

@@ -3,40 +3,28 @@ use Rattle.trace.proofs.Groups.{cut-first, only, first-of}
 use borrow.Author.Needs.{needs}
 use Rattle.trace.proofs.number.read.Statement.{statement}
 use Rattle.trace.proofs.number.read.Tie as tie
-use Rattle.trace.proofs.number.read.Reads as reads
-use Rattle.trace.proofs.number.read.Lts as lts
-use Rattle.trace.proofs.number.later_groups.Reads as later-groups-reads
-use Rattle.trace.proofs.number.wide.Reads as wide-reads
 
--- src/number.rt:25:9
 returns : tie.Need-returns
 returns c = cut-first (c .before .before .args .s .now) (c .before .before .args .at) (c .if1 .taken)
 
--- src/number.rt:27:18
 shared-slice-read-wide : tie.Need-shared-slice-read-wide
 shared-slice-read-wide c = search needs
 
--- src/number.rt:27:9
 wide-requires : tie.Need-wide-requires
 wide-requires c κs = search needs
 
--- src/number.rt:29:38
 add-t9 : tie.Need-add-t9
 add-t9 c = search needs
 
--- src/number.rt:29:9
 returns-2 : tie.Need-returns-2
 returns-2 c = only (c .before .before .before .before .before .args .s .now) (c .before .before .before .before .before .args .at) (c .before .wide .result) (c .before .before .before .if1 .left) (c .before .wide .ensures .0) (c .if2 .taken)
 
--- src/number.rt:31:21
 add-later-groups : tie.Need-add-later-groups
 add-later-groups c = search needs
 
--- src/number.rt:31:5
 later-groups-requires : tie.Need-later-groups-requires
 later-groups-requires c κs = search needs
 
--- src/number.rt:21:1
 returns-3 : tie.Need-returns-3
 returns-3 c = c .later-groups .ensures ∙ first-of (c .before .before .before .before .before .before .args .s .now) (c .before .before .before .before .before .before .args .at) (c .before .before .wide .result) (c .before .before .before .before .if1 .left) (c .before .before .wide .ensures .0) (c .before .if2 .left)
 

@@ -1,15 +1,12 @@
-use Prim.Native.Nat.{ℕ, _+_, _-_, _≤_, _<_}
-use mathlib.Core.Path.{_≡_, refl, sym, ap, _∙_}
+use Prim.Native.Nat.{_-_, _≤_}
+use mathlib.Core.Path.{_≡_, refl, _∙_}
 use native.Mathlib.Omega.{arith}
-use native.Mathlib.Numerals.{add-one}
-use lib.ListN.{length, getD, drop, length-set}
+use lib.ListN.{length, length-set}
 use lib.Seq.{paste, paste-zero, drop-cons}
 use Rattle.trace.specs.Placing.{store-turn, stored}
 use borrow.Author.Needs.{needs}
 use Rattle.trace.proofs.output.copy.Statement.{statement}
 use Rattle.trace.proofs.output.copy.Tie as tie
-use Rattle.trace.proofs.output.copy.Reads as reads
-use Rattle.trace.proofs.output.copy.Lts as lts
 
 abbrev Inv-loop : tie.InvT-loop
 Inv-loop out₀ at s i₀ out i =
@@ -18,43 +15,33 @@ Inv-loop out₀ at s i₀ out i =
 abbrev μ-loop : tie.MeasureT-loop
 μ-loop out₀ at s i₀ out i = length s - i
 
--- src/output.rt:33:5
 loop-holds : tie.Need-loop-holds Inv-loop μ-loop
 loop-holds c = (search needs, refl, paste-zero (c .args .out .now) (c .args .at) (c .args .s .now))
 
--- src/output.rt:34:23
 shared-slice-read-out : tie.Need-shared-slice-read-out Inv-loop μ-loop
 shared-slice-read-out c = search needs
 
--- src/output.rt:34:13
 add-out : tie.Need-add-out Inv-loop μ-loop
 add-out c = search needs
 
--- src/output.rt:34:9
 slice-write-out : tie.Need-slice-write-out Inv-loop μ-loop
 slice-write-out c = search needs
 
--- src/output.rt:35:13
 add-i : tie.Need-add-i Inv-loop μ-loop
 add-i c = search needs
 
--- src/output.rt:33:5
 loop-less : tie.Need-loop-less Inv-loop μ-loop
 loop-less c = search needs
 
--- src/output.rt:33:5
 loop-again : tie.Need-loop-again Inv-loop μ-loop
 loop-again c = (search needs, simp length-set (c .before .before .loop .inv .1), store-turn (c .before .before .before .args .out .now) (c .before .before .before .args .at) (c .before .before .before .args .s .now) (c .before .before .loop .i) (drop-cons (c .before .before .before .args .s .now) (c .before .before .loop .i) 0 (c .before .loop-test .taken)) (c .before .before .before .pre) (c .before .before .loop .inv .2))
 
--- src/output.rt:37:5
 add-result : tie.Need-add-result Inv-loop μ-loop
 add-result c = search needs
 
--- src/output.rt:28:1
 same-length : tie.Need-same-length Inv-loop μ-loop
 same-length c = c .before .loop .inv .1
 
--- src/output.rt:28:1
 returns : tie.Need-returns Inv-loop μ-loop
 returns c = record { place = omega arith; bytes = c .before .loop .inv .2 ∙ stored (c .before .before .args .out .now) (c .before .before .args .at) (c .before .before .args .s .now) (c .before .loop .i) (omega arith) }
 

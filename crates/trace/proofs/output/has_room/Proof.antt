@@ -3,17 +3,12 @@ use mathlib.Core.Path.{sym}
 use native.Mathlib.Omega.{arith}
 use borrow.Author.Tests.{lt-leb}
 use Rattle.trace.specs.Placing.{room-same}
-use borrow.Author.Needs.{needs}
 use Rattle.trace.proofs.output.has_room.Statement.{statement}
 use Rattle.trace.proofs.output.has_room.Tie as tie
-use Rattle.trace.proofs.output.has_room.Reads as reads
-use Rattle.trace.proofs.output.has_room.Lts as lts
 
--- src/output.rt:22:9
 returns : tie.Need-returns
 returns c = sym (lt-leb (c .before .args .at + c .before .args .need) (c .before .args .size) (omega arith))
 
--- src/output.rt:18:1
 returns-2 : tie.Need-returns-2
 returns-2 c = room-same (c .before .args .at) (c .before .args .need) (c .before .args .size) (c .if1 .left)
 

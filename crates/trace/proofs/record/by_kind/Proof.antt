@@ -1,31 +1,22 @@
 use mathlib.Core.Path.{refl}
-use borrow.Author.Tests.{lt-ltb, le-ltb, eq-eqb, ne-eqb, le-leb, lt-leb}
+use borrow.Author.Tests.{eq-eqb, ne-eqb}
 use Rattle.laws.specs.Choice.{then, else}
 use borrow.Author.Needs.{needs}
 use Rattle.trace.proofs.record.by_kind.Statement.{statement}
 use Rattle.trace.proofs.record.by_kind.Tie as tie
-use Rattle.trace.proofs.record.by_kind.Reads as reads
-use Rattle.trace.proofs.record.by_kind.Lts as lts
-use Rattle.trace.proofs.record.frame.Reads as frame-reads
-use Rattle.trace.proofs.record.reading.Reads as reading-reads
 
--- src/record.rt:61:9
 reading-requires : tie.Need-reading-requires
 reading-requires c κs = search needs
 
--- src/record.rt:61:9
 returns : tie.Need-returns
 returns c = then _ _ _ _ (eq-eqb _ _ (c .before .if1 .taken)) (c .reading .ensures)
 
--- src/record.rt:64:9
 frame-requires : tie.Need-frame-requires
 frame-requires c κs = search needs
 
--- src/record.rt:64:9
 returns-2 : tie.Need-returns-2
 returns-2 c = else _ _ _ _ (ne-eqb _ _ (c .before .before .if1 .left)) (then _ _ _ _ (eq-eqb _ _ (c .before .if2 .taken)) (c .frame .ensures))
 
--- src/record.rt:57:1
 returns-3 : tie.Need-returns-3
 returns-3 c = else _ _ _ _ (ne-eqb _ _ (c .before .if1 .left)) (else _ _ _ _ (ne-eqb _ _ (c .if2 .left)) refl)
 

@@ -1,29 +1,22 @@
 use mathlib.Core.Path.{refl}
-use borrow.Author.Tests.{lt-ltb, le-ltb, eq-eqb, ne-eqb, le-leb, lt-leb}
+use borrow.Author.Tests.{lt-ltb, le-ltb}
 use Rattle.laws.specs.Choice.{then, else}
 use borrow.Author.Needs.{needs}
 use Rattle.trace.proofs.record.bytes.Statement.{statement}
 use Rattle.trace.proofs.record.bytes.Tie as tie
-use Rattle.trace.proofs.record.bytes.Reads as reads
-use Rattle.trace.proofs.record.bytes.Lts as lts
 
--- src/record.rt:105:9
 returns : tie.Need-returns
 returns c = then _ _ _ _ (lt-ltb _ _ (c .if1 .taken)) refl
 
--- src/record.rt:108:8
 sub-if2 : tie.Need-sub-if2
 sub-if2 c = search needs
 
--- src/record.rt:109:9
 returns-2 : tie.Need-returns-2
 returns-2 c = else _ _ _ _ (le-ltb _ _ (c .before .if1 .left)) (then _ _ _ _ (lt-ltb _ _ (c .if2 .taken)) refl)
 
--- src/record.rt:115:15
 add-t8 : tie.Need-add-t8
 add-t8 c = search needs
 
--- src/record.rt:100:1
 returns-3 : tie.Need-returns-3
 returns-3 c = else _ _ _ _ (le-ltb _ _ (c .before .if1 .left)) (else _ _ _ _ (le-ltb _ _ (c .if2 .left)) refl)
 

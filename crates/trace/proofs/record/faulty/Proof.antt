@@ -3,46 +3,34 @@ use Rattle.trace.specs.Records.{faulted}
 use borrow.Author.Needs.{needs}
 use Rattle.trace.proofs.record.faulty.Statement.{statement}
 use Rattle.trace.proofs.record.faulty.Tie as tie
-use Rattle.trace.proofs.record.faulty.Reads as reads
-use Rattle.trace.proofs.record.faulty.Lts as lts
 
--- src/record.rt:49:23
 enum-told : tie.Need-enum-told
 enum-told c = search needs
 
--- src/record.rt:50:47
 enum-told-2 : tie.Need-enum-told-2
 enum-told-2 c = search needs
 
--- src/record.rt:51:44
 enum-told-3 : tie.Need-enum-told-3
 enum-told-3 c = search needs
 
--- src/record.rt:52:40
 enum-told-4 : tie.Need-enum-told-4
 enum-told-4 c = search needs
 
--- src/record.rt:53:42
 enum-told-5 : tie.Need-enum-told-5
 enum-told-5 c = search needs
 
--- src/record.rt:45:1
 returns : tie.Need-returns
 returns c = search needs
 
--- src/record.rt:45:1
 returns-2 : tie.Need-returns-2
 returns-2 c = sym (ap faulted (c .enum-told2 .given .1))
 
--- src/record.rt:45:1
 returns-3 : tie.Need-returns-3
 returns-3 c = sym (ap faulted (c .enum-told3 .given .1))
 
--- src/record.rt:45:1
 returns-4 : tie.Need-returns-4
 returns-4 c = sym (ap faulted (c .enum-told4 .given .1))
 
--- src/record.rt:45:1
 returns-5 : tie.Need-returns-5
 returns-5 c = sym (ap faulted (c .enum-told5 .given .1))
 

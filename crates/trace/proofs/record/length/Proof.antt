@@ -4,37 +4,25 @@ use Rattle.trace.proofs.Arms.{at-number, at-fault, ends-inside}
 use borrow.Author.Needs.{needs}
 use Rattle.trace.proofs.record.length.Statement.{statement}
 use Rattle.trace.proofs.record.length.Tie as tie
-use Rattle.trace.proofs.record.length.Reads as reads
-use Rattle.trace.proofs.record.length.Lts as lts
-use Rattle.trace.proofs.number.read.Reads as read-reads
-use Rattle.trace.proofs.record.bytes.Reads as bytes-reads
-use Rattle.trace.proofs.record.faulty.Reads as faulty-reads
 
--- src/record.rt:92:9
 read-requires : tie.Need-read-requires
 read-requires c κs = search needs
 
--- src/record.rt:94:28
 enum-known-n : tie.Need-enum-known-n
 enum-known-n c = search needs
 
--- src/record.rt:94:43
 bytes-requires : tie.Need-bytes-requires
 bytes-requires c κs = ends-inside (c .before .before .before .before .before .args .s .now) (c .before .before .before .before .before .args .at) (c .before .before .before .read .ensures) (c .before .n .given .1)
 
--- src/record.rt:95:25
 enum-known-n-2 : tie.Need-enum-known-n-2
 enum-known-n-2 c = search needs
 
--- src/record.rt:95:31
 faulty-requires : tie.Need-faulty-requires
 faulty-requires c κs = search needs
 
--- src/record.rt:89:1
 returns : tie.Need-returns
 returns c = at-number (bytesAt (length (c .before .before .before .before .before .before .args .s .now)) (c .before .before .before .before .before .before .args .identifier)) (c .before .before .before .before .read .ensures) (c .before .before .n .given .1) (c .bytes .ensures)
 
--- src/record.rt:89:1
 returns-2 : tie.Need-returns-2
 returns-2 c = at-fault (bytesAt (length (c .before .before .before .before .before .before .args .s .now)) (c .before .before .before .before .before .before .args .identifier)) (c .before .before .before .before .read .ensures) (c .before .before .n2 .given .1) (c .faulty .ensures)
 

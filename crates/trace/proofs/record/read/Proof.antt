@@ -1,48 +1,35 @@
 use mathlib.Core.Path.{refl}
-use borrow.Author.Tests.{lt-ltb, le-ltb, eq-eqb, ne-eqb, le-leb, lt-leb}
+use borrow.Author.Tests.{le-leb, lt-leb}
 use Rattle.laws.specs.Choice.{then, else}
 use Rattle.trace.specs.Records.{byKind, recordAt}
-use Rattle.trace.proofs.Arms.{at-number, at-fault, ends-inside}
+use Rattle.trace.proofs.Arms.{at-number, at-fault}
 use borrow.Author.Needs.{needs}
 use Rattle.trace.proofs.record.read.Statement.{statement}
 use Rattle.trace.proofs.record.read.Tie as tie
-use Rattle.trace.proofs.record.read.Reads as reads
-use Rattle.trace.proofs.record.read.Lts as lts
-use Rattle.trace.proofs.number.read.Reads as read-reads
-use Rattle.trace.proofs.record.by_kind.Reads as by-kind-reads
-use Rattle.trace.proofs.record.faulty.Reads as faulty-reads
 
--- src/record.rt:36:9
 returns : tie.Need-returns
 unfolding recordAt
 returns c = then _ _ _ _ (le-leb _ _ (c .if1 .taken)) refl
 
--- src/record.rt:38:9
 read-requires : tie.Need-read-requires
 read-requires c κs = search needs
 
--- src/record.rt:40:28
 enum-known-kind : tie.Need-enum-known-kind
 enum-known-kind c = search needs
 
--- src/record.rt:40:40
 by-kind-requires : tie.Need-by-kind-requires
 by-kind-requires c κs = search needs
 
--- src/record.rt:41:25
 enum-known-kind-2 : tie.Need-enum-known-kind-2
 enum-known-kind-2 c = search needs
 
--- src/record.rt:41:31
 faulty-requires : tie.Need-faulty-requires
 faulty-requires c κs = search needs
 
--- src/record.rt:32:1
 returns-2 : tie.Need-returns-2
 unfolding recordAt
 returns-2 c = else _ _ _ _ (lt-leb _ _ (c .before .before .before .before .before .if1 .left)) (at-number (byKind (c .before .before .before .before .before .before .before .args .s .now)) (c .before .before .before .before .read .ensures) (c .before .before .kind .given .1) (c .by-kind .ensures))
 
--- src/record.rt:32:1
 returns-3 : tie.Need-returns-3
 unfolding recordAt
 returns-3 c = else _ _ _ _ (lt-leb _ _ (c .before .before .before .before .before .if1 .left)) (at-fault (byKind (c .before .before .before .before .before .before .before .args .s .now)) (c .before .before .before .before .read .ensures) (c .before .before .kind2 .given .1) (c .faulty .ensures))

@@ -4,32 +4,22 @@ use Rattle.trace.proofs.Arms.{at-number, at-fault}
 use borrow.Author.Needs.{needs}
 use Rattle.trace.proofs.record.reading.Statement.{statement}
 use Rattle.trace.proofs.record.reading.Tie as tie
-use Rattle.trace.proofs.record.reading.Reads as reads
-use Rattle.trace.proofs.record.reading.Lts as lts
-use Rattle.trace.proofs.number.read.Reads as read-reads
-use Rattle.trace.proofs.record.faulty.Reads as faulty-reads
 
--- src/record.rt:72:9
 read-requires : tie.Need-read-requires
 read-requires c κs = search needs
 
--- src/record.rt:74:28
 enum-known-n : tie.Need-enum-known-n
 enum-known-n c = search needs
 
--- src/record.rt:75:25
 enum-known-n-2 : tie.Need-enum-known-n-2
 enum-known-n-2 c = search needs
 
--- src/record.rt:75:31
 faulty-requires : tie.Need-faulty-requires
 faulty-requires c κs = search needs
 
--- src/record.rt:69:1
 returns : tie.Need-returns
 returns c = at-number Reading (c .before .before .before .read .ensures) (c .before .n .given .1) refl
 
--- src/record.rt:69:1
 returns-2 : tie.Need-returns-2
 returns-2 c = at-fault Reading (c .before .before .before .before .read .ensures) (c .before .before .n2 .given .1) (c .faulty .ensures)
 

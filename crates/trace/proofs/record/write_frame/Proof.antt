@@ -1,68 +1,49 @@
-use Rattle.trace.specs.Placing.{room-told, written-none, written-all, written-record, written-long, front-room, room-after, put-both, size-both, size-four}
-use Rattle.trace.specs.Records.{reading, frame, recordBytes}
+use Rattle.trace.specs.Placing.{room-told, written-none, written-all, written-record, written-long, size-four}
+use Rattle.trace.specs.Records.{frame, recordBytes}
 use Rattle.trace.specs.Numbers.{numberBytes}
-use mathlib.Core.Path.{refl, sym, ap, _∙_}
-use mathlib.Core.List.{_++_}
+use mathlib.Core.Path.{refl}
 use lib.ListN.{length}
 use borrow.Author.Tests.{lt-ltb, le-ltb}
 use borrow.Author.Needs.{needs}
 use Rattle.trace.proofs.record.write_frame.Statement.{statement}
 use Rattle.trace.proofs.record.write_frame.Tie as tie
-use Rattle.trace.proofs.record.write_frame.Reads as reads
-use Rattle.trace.proofs.record.write_frame.Lts as lts
-use Rattle.trace.proofs.number.size.Reads as size-reads
-use Rattle.trace.proofs.output.has_room.Reads as has-room-reads
-use Rattle.trace.proofs.record.put_frame.Reads as put-frame-reads
 
--- src/record.rt:140:9
 returns : tie.Need-returns
 returns c = written-long (frame (c .before .before .before .args .identifier) (c .before .before .before .args .s .now)) (lt-ltb 64 (length (c .before .before .before .args .s .now)) (c .if1 .taken))
 
--- src/record.rt:142:16
 size-requires : tie.Need-size-requires
 size-requires c κs = search needs
 
--- src/record.rt:142:34
 size-requires-2 : tie.Need-size-requires-2
 size-requires-2 c κs = search needs
 
--- src/record.rt:142:16
 add-need : tie.Need-add-need
 add-need c = search needs
 
--- src/record.rt:142:74
 cast-size : tie.Need-cast-size
 cast-size c = search needs
 
--- src/record.rt:142:61
 size-requires-3 : tie.Need-size-requires-3
 size-requires-3 c κs = search needs
 
--- src/record.rt:142:16
 add-need-2 : tie.Need-add-need-2
 add-need-2 c = search needs
 
--- src/record.rt:142:16
 add-need-3 : tie.Need-add-need-3
 add-need-3 c = search needs
 
--- src/record.rt:143:9
 has-room-requires : tie.Need-has-room-requires
 has-room-requires c κs = search needs
 
--- src/record.rt:144:9
 returns-2 : tie.Need-returns-2
 returns-2 c = written-record (frame (c .before .before .before .before .before .before .before .before .args .identifier) (c .before .before .before .before .before .before .before .before .args .s .now)) (le-ltb 64 (length (c .before .before .before .before .before .before .before .before .args .s .now)) (c .before .before .before .before .before .if1 .left)) (written-none (c .before .before .before .before .before .before .before .before .args .out .now) (c .before .before .before .before .before .before .before .before .args .at) (recordBytes (frame (c .before .before .before .before .before .before .before .before .args .identifier) (c .before .before .before .before .before .before .before .before .args .s .now))) (size-four (numberBytes 1) (numberBytes (c .before .before .before .before .before .before .before .before .args .identifier)) (numberBytes (length (c .before .before .before .before .before .before .before .before .args .s .now))) (c .before .before .before .before .before .before .before .before .args .s .now) (c .before .before .before .before .size .ensures .0) (c .before .before .before .size2 .ensures .0) (c .before .before .size3 .ensures .0) refl) (c .before .has-room .ensures) (c .if2 .taken))
 
--- src/record.rt:146:19
 put-frame-requires : tie.Need-put-frame-requires
 put-frame-requires c κs = (c .before .before .before .before .before .before .if1 .left, room-told (c .before .before .before .before .before .before .before .before .before .args .out .now) (c .before .before .before .before .before .before .before .before .before .args .at) (recordBytes (frame (c .before .before .before .before .before .before .before .before .before .args .identifier) (c .before .before .before .before .before .before .before .before .before .args .s .now))) (size-four (numberBytes 1) (numberBytes (c .before .before .before .before .before .before .before .before .before .args .identifier)) (numberBytes (length (c .before .before .before .before .before .before .before .before .before .args .s .now))) (c .before .before .before .before .before .before .before .before .before .args .s .now) (c .before .before .before .before .before .size .ensures .0) (c .before .before .before .before .size2 .ensures .0) (c .before .before .before .size3 .ensures .0) refl) (c .before .before .has-room .ensures) (c .before .if2 .left))
 
--- src/record.rt:135:1
 same-length : tie.Need-same-length
 same-length c = search needs
 
--- src/record.rt:135:1
 returns-3 : tie.Need-returns-3
 returns-3 c = written-record (frame (c .before .before .before .before .before .before .before .before .before .before .before .before .args .identifier) (c .before .before .before .before .before .before .before .before .before .before .before .before .args .s .now)) (le-ltb 64 (length (c .before .before .before .before .before .before .before .before .before .before .before .before .args .s .now)) (c .before .before .before .before .before .before .before .before .before .if1 .left)) (written-all (c .before .before .before .before .before .before .before .before .before .before .before .before .args .out .now) (c .before .before .before .before .before .before .before .before .before .before .before .before .args .at) (recordBytes (frame (c .before .before .before .before .before .before .before .before .before .before .before .before .args .identifier) (c .before .before .before .before .before .before .before .before .before .before .before .before .args .s .now))) (size-four (numberBytes 1) (numberBytes (c .before .before .before .before .before .before .before .before .before .before .before .before .args .identifier)) (numberBytes (length (c .before .before .before .before .before .before .before .before .before .before .before .before .args .s .now))) (c .before .before .before .before .before .before .before .before .before .before .before .before .args .s .now) (c .before .before .before .before .before .before .before .before .size .ensures .0) (c .before .before .before .before .before .before .before .size2 .ensures .0) (c .before .before .before .before .before .before .size3 .ensures .0) refl) (c .before .before .before .before .before .has-room .ensures) (c .before .before .before .before .if2 .left) (c .before .before .put-frame .ensures))
 

@@ -1,52 +1,35 @@
-use Rattle.trace.specs.Placing.{room-told, written-none, written-all, written-record, written-long, front-room, room-after, put-both, size-both, size-four}
-use Rattle.trace.specs.Records.{reading, frame, recordBytes}
+use Rattle.trace.specs.Placing.{room-told, written-none, written-all, written-record, front-room, room-after, put-both, size-both}
+use Rattle.trace.specs.Records.{reading, recordBytes}
 use Rattle.trace.specs.Numbers.{numberBytes}
-use mathlib.Core.Path.{refl, sym, ap, _∙_}
-use mathlib.Core.List.{_++_}
-use lib.ListN.{length}
-use borrow.Author.Tests.{lt-ltb, le-ltb}
+use mathlib.Core.Path.{refl}
 use borrow.Author.Needs.{needs}
 use Rattle.trace.proofs.record.write_reading.Statement.{statement}
 use Rattle.trace.proofs.record.write_reading.Tie as tie
-use Rattle.trace.proofs.record.write_reading.Reads as reads
-use Rattle.trace.proofs.record.write_reading.Lts as lts
-use Rattle.trace.proofs.number.put.Reads as put-reads
-use Rattle.trace.proofs.number.size.Reads as size-reads
-use Rattle.trace.proofs.output.has_room.Reads as has-room-reads
 
--- src/record.rt:126:16
 size-requires : tie.Need-size-requires
 size-requires c κs = search needs
 
--- src/record.rt:126:34
 size-requires-2 : tie.Need-size-requires-2
 size-requires-2 c κs = search needs
 
--- src/record.rt:126:16
 add-need : tie.Need-add-need
 add-need c = search needs
 
--- src/record.rt:127:9
 has-room-requires : tie.Need-has-room-requires
 has-room-requires c κs = search needs
 
--- src/record.rt:128:9
 returns : tie.Need-returns
 returns c = written-record (reading (c .before .before .before .before .before .args .value)) refl (written-none (c .before .before .before .before .before .args .out .now) (c .before .before .before .before .before .args .at) (recordBytes (reading (c .before .before .before .before .before .args .value))) (size-both (numberBytes 0) (numberBytes (c .before .before .before .before .before .args .value)) (c .before .before .before .size .ensures .0) (c .before .before .size2 .ensures .0)) (c .before .has-room .ensures) (c .if1 .taken))
 
--- src/record.rt:130:9
 put-requires : tie.Need-put-requires
 put-requires c κs = front-room (c .before .before .before .before .before .before .args .out .now) (c .before .before .before .before .before .before .args .at) (numberBytes 0) (numberBytes (c .before .before .before .before .before .before .args .value)) (room-told (c .before .before .before .before .before .before .args .out .now) (c .before .before .before .before .before .before .args .at) (recordBytes (reading (c .before .before .before .before .before .before .args .value))) (size-both (numberBytes 0) (numberBytes (c .before .before .before .before .before .before .args .value)) (c .before .before .before .before .size .ensures .0) (c .before .before .before .size2 .ensures .0)) (c .before .before .has-room .ensures) (c .before .if1 .left))
 
--- src/record.rt:131:19
 put-requires-2 : tie.Need-put-requires-2
 put-requires-2 c κs = room-after (numberBytes (c .before .before .before .before .before .before .before .before .before .before .args .value)) (c .before .before .before .put .ensures) (room-told (c .before .before .before .before .before .before .before .before .before .before .args .out .now) (c .before .before .before .before .before .before .before .before .before .before .args .at) (recordBytes (reading (c .before .before .before .before .before .before .before .before .before .before .args .value))) (size-both (numberBytes 0) (numberBytes (c .before .before .before .before .before .before .before .before .before .before .args .value)) (c .before .before .before .before .before .before .before .before .size .ensures .0) (c .before .before .before .before .before .before .before .size2 .ensures .0)) (c .before .before .before .before .before .before .has-room .ensures) (c .before .before .before .before .before .if1 .left))
 
--- src/record.rt:123:1
 same-length : tie.Need-same-length
 same-length c = search needs
 
--- src/record.rt:123:1
 returns-2 : tie.Need-returns-2
 returns-2 c = written-record (reading (c .before .before .before .before .before .before .before .before .before .before .before .before .before .args .value)) refl (written-all (c .before .before .before .before .before .before .before .before .before .before .before .before .before .args .out .now) (c .before .before .before .before .before .before .before .before .before .before .before .before .before .args .at) (recordBytes (reading (c .before .before .before .before .before .before .before .before .before .before .before .before .before .args .value))) (size-both (numberBytes 0) (numberBytes (c .before .before .before .before .before .before .before .before .before .before .before .before .before .args .value)) (c .before .before .before .before .before .before .before .before .before .before .before .size .ensures .0) (c .before .before .before .before .before .before .before .before .before .before .size2 .ensures .0)) (c .before .before .before .before .before .before .before .before .before .has-room .ensures) (c .before .before .before .before .before .before .before .before .if1 .left) (put-both (numberBytes (c .before .before .before .before .before .before .before .before .before .before .before .before .before .args .value)) (c .before .before .before .before .before .before .put .ensures) (room-told (c .before .before .before .before .before .before .before .before .before .before .before .before .before .args .out .now) (c .before .before .before .before .before .before .before .before .before .before .before .before .before .args .at) (recordBytes (reading (c .before .before .before .before .before .before .before .before .before .before .before .before .before .args .value))) (size-both (numberBytes 0) (numberBytes (c .before .before .before .before .before .before .before .before .before .before .before .before .before .args .value)) (c .before .before .before .before .before .before .before .before .before .before .before .size .ensures .0) (c .before .before .before .before .before .before .before .before .before .before .size2 .ensures .0)) (c .before .before .before .before .before .before .before .before .before .has-room .ensures) (c .before .before .before .before .before .before .before .before .if1 .left)) (c .before .before .put2 .ensures)))
 
