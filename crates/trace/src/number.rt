@@ -105,7 +105,7 @@ pub fn size(n: u32) -> usize
 }
 
 // Writes a number at a place that has room for it.
-pub fn put(out: &mut [u8], at: usize, n: u32) -> usize
+pub(crate) fn put(out: &mut [u8], at: usize, n: u32) -> usize
     requires { ⌜ at + length (numberBytes n) ≤ length (now out) ⌝ }
     ensures { λ r. ⌜ Put (now (out .entry)) at (numberBytes n) r (now (out .exit)) ⌝ }
 {

@@ -15,7 +15,7 @@ pub enum Written {
 }
 
 // Whether need bytes fit from a place on into an output of the size.
-pub fn has_room(size: usize, at: usize, need: usize) -> bool
+pub(crate) fn has_room(size: usize, at: usize, need: usize) -> bool
     ensures { λ r. ⌜ r ≡ leb (at + need) size ⌝ }
 {
     if size < at {
@@ -25,7 +25,7 @@ pub fn has_room(size: usize, at: usize, need: usize) -> bool
 }
 
 // Copies s to a place that has room for it.
-pub fn copy(out: &mut [u8], at: usize, s: &[u8]) -> usize
+pub(crate) fn copy(out: &mut [u8], at: usize, s: &[u8]) -> usize
     requires { ⌜ at + length (now s) ≤ length (now out) ⌝ }
     ensures { λ r. ⌜ Put (now (out .entry)) at (now (s .entry)) r (now (out .exit)) ⌝ }
 {

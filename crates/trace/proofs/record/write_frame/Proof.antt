@@ -1,7 +1,6 @@
-use Rattle.trace.specs.Placing.{room-told, written-none, written-all, written-record, written-long, size-four}
+use Rattle.trace.proofs.Pieces.{frame-size}
+use Rattle.trace.specs.Placing.{room-told, written-none, written-all, written-record, written-long}
 use Rattle.trace.specs.Records.{frame, recordBytes}
-use Rattle.trace.specs.Numbers.{numberBytes}
-use mathlib.Core.Path.{refl}
 use lib.ListN.{length}
 use borrow.Author.Tests.{lt-ltb, le-ltb}
 use borrow.Author.Needs.{needs}
@@ -36,16 +35,20 @@ has-room-requires : tie.Need-has-room-requires
 has-room-requires c κs = search needs
 
 returns-2 : tie.Need-returns-2
-returns-2 c = written-record (frame (c .before .before .before .before .before .before .before .before .args .identifier) (c .before .before .before .before .before .before .before .before .args .s .now)) (le-ltb 64 (length (c .before .before .before .before .before .before .before .before .args .s .now)) (c .before .before .before .before .before .if1 .left)) (written-none (c .before .before .before .before .before .before .before .before .args .out .now) (c .before .before .before .before .before .before .before .before .args .at) (recordBytes (frame (c .before .before .before .before .before .before .before .before .args .identifier) (c .before .before .before .before .before .before .before .before .args .s .now))) (size-four (numberBytes 1) (numberBytes (c .before .before .before .before .before .before .before .before .args .identifier)) (numberBytes (length (c .before .before .before .before .before .before .before .before .args .s .now))) (c .before .before .before .before .before .before .before .before .args .s .now) (c .before .before .before .before .size .ensures .0) (c .before .before .before .size2 .ensures .0) (c .before .before .size3 .ensures .0) refl) (c .before .has-room .ensures) (c .if2 .taken))
+returns-2 c =
+    written-record (frame (c .before .before .before .before .before .before .before .before .args .identifier) (c .before .before .before .before .before .before .before .before .args .s .now)) (le-ltb 64 (length (c .before .before .before .before .before .before .before .before .args .s .now)) (c .before .before .before .before .before .if1 .left))
+    (written-none (c .before .before .before .before .before .before .before .before .args .out .now) (c .before .before .before .before .before .before .before .before .args .at) (recordBytes (frame (c .before .before .before .before .before .before .before .before .args .identifier) (c .before .before .before .before .before .before .before .before .args .s .now))) (frame-size (c .before .before .before .before .before .before .before .before .args .identifier) (c .before .before .before .before .before .before .before .before .args .s .now) (c .before .before .before .before .size .ensures .0) (c .before .before .before .size2 .ensures .0) (c .before .before .size3 .ensures .0)) (c .before .has-room .ensures) (c .if2 .taken))
 
 put-frame-requires : tie.Need-put-frame-requires
-put-frame-requires c κs = (c .before .before .before .before .before .before .if1 .left, room-told (c .before .before .before .before .before .before .before .before .before .args .out .now) (c .before .before .before .before .before .before .before .before .before .args .at) (recordBytes (frame (c .before .before .before .before .before .before .before .before .before .args .identifier) (c .before .before .before .before .before .before .before .before .before .args .s .now))) (size-four (numberBytes 1) (numberBytes (c .before .before .before .before .before .before .before .before .before .args .identifier)) (numberBytes (length (c .before .before .before .before .before .before .before .before .before .args .s .now))) (c .before .before .before .before .before .before .before .before .before .args .s .now) (c .before .before .before .before .before .size .ensures .0) (c .before .before .before .before .size2 .ensures .0) (c .before .before .before .size3 .ensures .0) refl) (c .before .before .has-room .ensures) (c .before .if2 .left))
+put-frame-requires c κs = (c .before .before .before .before .before .before .if1 .left, room-told (c .before .before .before .before .before .before .before .before .before .args .out .now) (c .before .before .before .before .before .before .before .before .before .args .at) (recordBytes (frame (c .before .before .before .before .before .before .before .before .before .args .identifier) (c .before .before .before .before .before .before .before .before .before .args .s .now))) (frame-size (c .before .before .before .before .before .before .before .before .before .args .identifier) (c .before .before .before .before .before .before .before .before .before .args .s .now) (c .before .before .before .before .before .size .ensures .0) (c .before .before .before .before .size2 .ensures .0) (c .before .before .before .size3 .ensures .0)) (c .before .before .has-room .ensures) (c .before .if2 .left))
 
 same-length : tie.Need-same-length
 same-length c = search needs
 
 returns-3 : tie.Need-returns-3
-returns-3 c = written-record (frame (c .before .before .before .before .before .before .before .before .before .before .before .before .args .identifier) (c .before .before .before .before .before .before .before .before .before .before .before .before .args .s .now)) (le-ltb 64 (length (c .before .before .before .before .before .before .before .before .before .before .before .before .args .s .now)) (c .before .before .before .before .before .before .before .before .before .if1 .left)) (written-all (c .before .before .before .before .before .before .before .before .before .before .before .before .args .out .now) (c .before .before .before .before .before .before .before .before .before .before .before .before .args .at) (recordBytes (frame (c .before .before .before .before .before .before .before .before .before .before .before .before .args .identifier) (c .before .before .before .before .before .before .before .before .before .before .before .before .args .s .now))) (size-four (numberBytes 1) (numberBytes (c .before .before .before .before .before .before .before .before .before .before .before .before .args .identifier)) (numberBytes (length (c .before .before .before .before .before .before .before .before .before .before .before .before .args .s .now))) (c .before .before .before .before .before .before .before .before .before .before .before .before .args .s .now) (c .before .before .before .before .before .before .before .before .size .ensures .0) (c .before .before .before .before .before .before .before .size2 .ensures .0) (c .before .before .before .before .before .before .size3 .ensures .0) refl) (c .before .before .before .before .before .has-room .ensures) (c .before .before .before .before .if2 .left) (c .before .before .put-frame .ensures))
+returns-3 c =
+    written-record (frame (c .before .before .before .before .before .before .before .before .before .before .before .before .args .identifier) (c .before .before .before .before .before .before .before .before .before .before .before .before .args .s .now)) (le-ltb 64 (length (c .before .before .before .before .before .before .before .before .before .before .before .before .args .s .now)) (c .before .before .before .before .before .before .before .before .before .if1 .left))
+    (written-all (c .before .before .before .before .before .before .before .before .before .before .before .before .args .out .now) (c .before .before .before .before .before .before .before .before .before .before .before .before .args .at) (recordBytes (frame (c .before .before .before .before .before .before .before .before .before .before .before .before .args .identifier) (c .before .before .before .before .before .before .before .before .before .before .before .before .args .s .now))) (frame-size (c .before .before .before .before .before .before .before .before .before .before .before .before .args .identifier) (c .before .before .before .before .before .before .before .before .before .before .before .before .args .s .now) (c .before .before .before .before .before .before .before .before .size .ensures .0) (c .before .before .before .before .before .before .before .size2 .ensures .0) (c .before .before .before .before .before .before .size3 .ensures .0)) (c .before .before .before .before .before .has-room .ensures) (c .before .before .before .before .if2 .left) (c .before .before .put-frame .ensures))
 
 pub write-frame-spec : {M : Type 1} → statement M
 write-frame-spec =
