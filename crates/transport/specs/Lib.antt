@@ -2,3 +2,4 @@ pub mod Control
 pub mod Segments
 pub mod Responses
 pub mod Reasons
+pub mod ReadBack
