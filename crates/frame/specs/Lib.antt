@@ -4,3 +4,4 @@ pub mod Pgn
 pub mod Lengths
 pub mod Identifiers
 pub mod Judge
+pub mod LengthLaws

@@ -1,4 +1,3 @@
-pub mod LengthLaws
 pub mod Packing
 pub mod Shapes
 pub mod RoundTrip

@@ -24,7 +24,7 @@ use Rattle.multi_pg.specs.Reader.{Chain, last, link, chain-good}
 use Rattle.multi_pg.specs.Table.{groups, shownBy, shown}
 use Rattle.packing.specs.declared.Packed.{Packed}
 use Rattle.packing.specs.declared.Packed.the-variants.{Frame, Refused}
-use Rattle.packing.specs.LengthLaws.{LeastOf, is-among}
+use Rattle.frame.specs.LengthLaws.{LeastOf, is-among}
 use Rattle.packing.specs.Packing.{headerOf, body, padding, sum, needed, frameLength, pgnsOk, requestFits, frameOf, packed}
 use Rattle.packing.specs.Shapes.{Met, request-met, padding-at, frame-least, length-frame}
 

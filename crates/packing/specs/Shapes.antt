@@ -14,7 +14,7 @@ use Rattle.laws.specs.Choice.{then, else, each-of}
 use Rattle.frame.specs.Lengths.{lengths, leastLength}
 use Rattle.frame.specs.declared.length.Least.{Least}
 use Rattle.frame.specs.declared.length.Least.the-variants.{Length, Nothing}
-use Rattle.packing.specs.LengthLaws.{LeastOf, least-length, length-found}
+use Rattle.frame.specs.LengthLaws.{LeastOf, least-length, length-found}
 use Rattle.packing.specs.Packing.{body, padding, padByte, sum, needed, capped, holding, frameLength, requestFits, frameOf}
 
 pub length-body : (ps ns d : List ℕ) → length ps ≡ length ns → length d ≡ sum ns → length (body ps ns d) ≡ needed ns

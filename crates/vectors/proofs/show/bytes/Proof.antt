@@ -1,0 +1,73 @@
+use borrow.Author.Needs.{needs}
+use Prim.Native.Nat.{_≤_, _-_}
+use lib.ListN.{length}
+use Rattle.vectors.proofs.show.bytes.Statement.{statement}
+use Rattle.vectors.proofs.show.bytes.Tie as tie
+use Rattle.vectors.proofs.show.bytes.Reads as reads
+use Rattle.vectors.proofs.show.bytes.Lts as lts
+use Rattle.io.proofs.print_hex.Reads as print-hex-reads
+use Rattle.io.proofs.write_all.Reads as write-all-reads
+use Rattle.vectors.proofs.show.wide.Reads as wide-reads
+
+abbrev Inv-loop : tie.InvT-loop
+Inv-loop s i₀ t3 i = i ≤ length s
+
+abbrev μ-loop : tie.MeasureT-loop
+μ-loop s i₀ t3 i = length s - i
+
+-- src/show.rt:23:5
+loop-holds : tie.Need-loop-holds Inv-loop μ-loop
+loop-holds c = search needs
+
+-- src/show.rt:24:26
+slice-aggregate-write-all : tie.Need-slice-aggregate-write-all Inv-loop μ-loop
+slice-aggregate-write-all c = search needs
+
+-- src/show.rt:24:9
+write-all-requires : tie.Need-write-all-requires Inv-loop μ-loop
+write-all-requires c κs = search needs
+
+-- src/show.rt:25:31
+shared-slice-read-wide : tie.Need-shared-slice-read-wide Inv-loop μ-loop
+shared-slice-read-wide c = search needs
+
+-- src/show.rt:25:26
+wide-requires : tie.Need-wide-requires Inv-loop μ-loop
+wide-requires c κs = search needs
+
+-- src/show.rt:25:9
+print-hex-requires : tie.Need-print-hex-requires Inv-loop μ-loop
+print-hex-requires c κs = search needs
+
+-- src/show.rt:26:13
+add-i : tie.Need-add-i Inv-loop μ-loop
+add-i c = search needs
+
+-- src/show.rt:23:5
+loop-less : tie.Need-loop-less Inv-loop μ-loop
+loop-less c = search needs
+
+-- src/show.rt:23:5
+loop-again : tie.Need-loop-again Inv-loop μ-loop
+loop-again c = search needs
+
+-- src/show.rt:21:1
+returns : tie.Need-returns Inv-loop μ-loop
+returns c = search needs
+
+pub bytes-spec : {M : Type 1} → statement M
+bytes-spec =
+    tie.close
+    (tie.spec
+    Inv-loop
+    μ-loop
+    loop-holds
+    slice-aggregate-write-all
+    write-all-requires
+    shared-slice-read-wide
+    wide-requires
+    print-hex-requires
+    add-i
+    loop-less
+    loop-again
+    returns)

@@ -1,0 +1,10 @@
+// Runs worked figures of SAE J1939-22 through the code and prints what comes. The file stdout beside src/ holds what should come,
+// worked out from the standard by hand; no line of it was copied from a run.
+mod groups;
+mod show;
+
+fn main() {
+    groups::headers();
+    groups::padding();
+    groups::examples();
+}
