@@ -71,15 +71,15 @@ abbrev pub abortAt : Key → List ℕ → abort.Abort
 abortAt k d = record { key = k; reason = getD d 8 0; pgn = low24 d 9 }
 
 -- Table 12: 1 is the responder
-abbrev pub abortOf : Key → List ℕ → ResponseRead
-abortOf k d = cond (eqb (roleAt d) 1) (read.Response (Abort (abortAt k d))) (read.Refused NotReceivers)
+abbrev pub abortResponseOf : Key → List ℕ → ResponseRead
+abortResponseOf k d = cond (eqb (roleAt d) 1) (read.Response (Abort (abortAt k d))) (read.Refused NotReceivers)
 
 -- CTS 1, EOMA 3, Abort 15 from the responder; no other is a receiver's frame
 abbrev pub byResponse : Key → List ℕ → ℕ → ResponseRead
 byResponse k d control =
     cond (eqb control 1) (read.Response (Cts (ctsAt k d)))
     (cond (eqb control 3) (read.Response (Eoma (eomaAt k d)))
-    (cond (eqb control 15) (abortOf k d)
+    (cond (eqb control 15) (abortResponseOf k d)
     (read.Refused NotReceivers)))
 
 unfoldable pub responseOf : Route → List ℕ → ResponseRead

@@ -2,7 +2,7 @@
 ghost use mathlib.Core.Path.{_≡_};
 ghost use lib.ListN.{length};
 ghost use Rattle.transport.specs.declared.response.Response.the-variants as response;
-ghost use Rattle.transport.specs.Responses.{replyId, responseId, responseBytes, sessionKeyOf, ctsAt, eomaAt, abortOf, responseOf};
+ghost use Rattle.transport.specs.Responses.{replyId, responseId, responseBytes, sessionKeyOf, ctsAt, eomaAt, abortResponseOf, responseOf};
 use super::Key;
 use super::control::key_of;
 use frame::ByteCount;
@@ -171,7 +171,7 @@ fn read_eoma(key: Key, frame: &[u8]) -> Eoma
 // An Abort: the responder's, or refused.
 fn read_abort(key: Key, frame: &[u8]) -> ResponseRead
     requires { ⌜ length (now frame) ≡ 12 ⌝ }
-    ensures { λ r. ⌜ r ≡ abortOf key (now (frame .entry)) ⌝ }
+    ensures { λ r. ⌜ r ≡ abortResponseOf key (now (frame .entry)) ⌝ }
 {
     if frame[7] % 4 == 1 {
         return ResponseRead::Response(Response::Abort(Abort {

@@ -1,6 +1,6 @@
 use Prim.Native.Nat.{ℕ}
 use mathlib.Core.Path.{_≡_, refl, sym, ap, _∙_}
-use mathlib.Core.Bool.{Bool, cond, not, _&&_}
+use mathlib.Core.Bool.{cond, not, _&&_}
 use mathlib.Core.List.{List}
 use lib.Dec.{eqb}
 use lib.ListN.{length}
@@ -10,7 +10,7 @@ use Rattle.frame.specs.declared.refusal.Refusal.the-variants.{NotReceivers}
 use Rattle.transport.specs.declared.Kind.the-variants.{Rts, Bam}
 use Rattle.transport.specs.declared.control.Control.{Control}
 use Rattle.transport.specs.declared.control.Control.the-variants.{Announce, EndOfMessage, Abort, Refused}
-use Rattle.transport.specs.Control.{controlAt, announcementAt, statusAt, roleAt, abortPgnAt, abortOf, controlOf}
+use Rattle.transport.specs.Control.{controlAt, announcementAt, statusAt, roleAt, abortPgnAt, controlOf}
 use borrow.Author.Needs.{needs}
 use Rattle.transport.proofs.control.read_control.Statement.{statement}
 use Rattle.transport.proofs.control.read_control.Tie as tie
