@@ -1,3 +1,5 @@
+use lib.Dec.{eqb}
+use Rattle.transport.specs.Control.{roleAt}
 use mathlib.Core.Path.{refl, ap}
 use borrow.Author.Tests.{eq-eqb, ne-eqb}
 use Rattle.laws.specs.Choice.{then, else}
@@ -19,11 +21,13 @@ low24-at-requires c κs = search needs
 
 -- src/control.rt:90:9
 returns : tie.Need-returns
-returns c = then _ _ _ _ (eq-eqb _ _ (c .before .if1 .taken)) (ap Abort (c .low24-at .ensures .0))
+returns c =
+    then (eqb (roleAt (c .before .before .before .before .args .bytes .now)) 0) _ _ _ (eq-eqb _ 0 (c .before .if1 .taken)) (ap Abort (c .low24-at .ensures .0))
 
 -- src/control.rt:85:1
 returns-2 : tie.Need-returns-2
-returns-2 c = else _ _ _ _ (ne-eqb _ _ (c .if1 .left)) refl
+returns-2 c =
+    else (eqb (roleAt (c .before .before .before .args .bytes .now)) 0) _ _ _ (ne-eqb _ 0 (c .if1 .left)) refl
 
 pub read-abort-spec : {M : Type 1} → statement M
 read-abort-spec = tie.close (tie.spec shared-slice-read-if1 low24-at-requires returns returns-2)
