@@ -5,3 +5,4 @@ pub mod Lengths
 pub mod Identifiers
 pub mod Judge
 pub mod LengthLaws
+pub mod Inverse

@@ -9,6 +9,7 @@ use borrow.Author.Tests.{eq-eqb}
 use Rattle.laws.specs.Choice.{else}
 use native.Mathlib.Omega.{arith}
 use Rattle.frame.specs.Identifiers.{identifierOf, idOf}
+use Rattle.frame.specs.Inverse.{read-of-id}
 use Rattle.frame.specs.Judge.{routeOf}
 use Rattle.frame.specs.Octets.{low3, low24}
 use Rattle.frame.specs.declared.identifier.Identifier.{Identifier}
@@ -19,26 +20,6 @@ use Rattle.transport.specs.declared.response.ResponseRead.{ResponseRead}
 use Rattle.transport.specs.declared.response.ResponseRead.the-variants as read
 use Rattle.transport.specs.Control.{controlAt}
 use Rattle.transport.specs.Responses.{head, replyId, responseId, responseKey, responseBytes, sessionKeyOf, byResponse, responseOf}
-
--- An identifier whose fields are no larger than their places is read as it was built.
-pub record Placed (f : Identifier) : Type 0 where
-  pub priority : f .priority < 8
-  pub extended-data-page : f .extended_data_page < 2
-  pub data-page : f .data_page < 2
-  pub pf : f .pf < 256
-  pub ps : f .ps < 256
-  pub sa : f .sa .0 < 256
-
-abbrev fields : ℕ → ℕ → ℕ → ℕ → ℕ → ℕ → Identifier
-fields p e d pf ps sa =
-    record { priority = p; extended_data_page = e; data_page = d; pf = pf; ps = ps; sa = record { 0 = sa } }
-
-same-fields : {p p′ e e′ d d′ pf pf′ ps ps′ sa sa′ : ℕ} → p ≡ p′ → e ≡ e′ → d ≡ d′ → pf ≡ pf′ → ps ≡ ps′ → sa ≡ sa′ → fields p e d pf ps sa ≡ fields p′ e′ d′ pf′ ps′ sa′
-same-fields a b c d e f = cc
-
-pub identifier-read-back : (f : Identifier) → Placed f → identifierOf (idOf f) ≡ f
-identifier-read-back f p =
-    same-fields (omega arith) (omega arith) (omega arith) (omega arith) (omega arith) (omega arith)
 
 -- Three bytes hold a number below 2^24.
 abbrev pub threeBytes : ℕ → ℕ
@@ -70,15 +51,8 @@ module _ (k : Key) (fits : KeyFits k) where
   reply-read-back : identifierOf (replyId k) ≡ replyFields k
   unfolding replyId
   reply-read-back =
-      identifier-read-back (replyFields k)
-      (record {
-        priority = omega arith;
-        extended-data-page = omega arith;
-        data-page = omega arith;
-        pf = omega arith;
-        ps = fits .sa;
-        sa = fits .da;
-      })
+      read-of-id (replyFields k) (record { pf = omega arith; ps = fits .sa; sa = fits .da })
+      (record { priority = omega arith; extended = omega arith; page = omega arith })
 
   module _ (n : ℕ) (small : n < 16) (rest : List ℕ) (long : length rest ≡ 11) where
     key-read-back : sessionKeyOf (routeOf (replyFields k)) (head n k ∷ rest) ≡ k

@@ -31,7 +31,7 @@ built-of-read id h =
     (else (leb 2 (id / 16777216 % 2)) _ _ _ (lt-leb 2 (id / 16777216 % 2) (omega arith))
     (ap Id (sym (sum-back id h))))))
 
--- the fields are bytes
+-- PF, PS and SA are bytes; the other fields are no larger than their places
 pub record Bytes (f : Identifier) : Type 0 where
   pub pf : f .pf < 256
   pub ps : f .ps < 256
