@@ -45,7 +45,8 @@ Fits (Abort f) = KeyFits (f .key) × (f .pgn < 16777216)
 
 -- priority 7, both pages 0, PF 77, from the session's DA to its SA
 abbrev pub replyFields : Key → Identifier
-replyFields k = fields 7 0 0 77 (k .sa .0) (k .da .0)
+replyFields k =
+    record { priority = 7; extended_data_page = 0; data_page = 0; pf = 77; ps = k .sa .0; sa = k .da }
 
 module _ (k : Key) (fits : KeyFits k) where
   reply-read-back : identifierOf (replyId k) ≡ replyFields k
