@@ -1,9 +1,16 @@
 // The receiver: eight slots over one lent store (01, "Life of a session").
+ghost use mathlib.Core.Path.{_≡_};
+ghost use Rattle.receiver.specs.Bounds.{opened};
+
 pub mod answer;
 pub mod slot;
 
+use answer::Opened;
+use answer::Opening;
 use frame::Address;
+use frame::refusal::Refusal;
 use slot::Slot;
+use slot::SlotState;
 
 // The receiver's record: the opening values, the last reading, and the slots.
 pub struct Receiver {
@@ -12,4 +19,37 @@ pub struct Receiver {
     pub limit: u32,
     pub last: u32,
     pub slots: [Slot; 8],
+}
+
+impl Receiver {
+    pub const SLOTS: usize = 8;
+
+    pub const SLOT_BYTES: usize = 4096;
+
+    // the most segments that one CTS grants
+    pub const GRANT: u8 = 16;
+
+    // A receiver with no slot open; refused with 23 unless own is 0 to 253 and limit 1 to 60,000.
+    pub fn open(own: Address, limit: u32, reading: u32) -> Opened
+        ensures { λ r. ⌜ r ≡ opened own limit reading ⌝ }
+    {
+        let receiver = Receiver {
+            own: own,
+            limit: limit,
+            last: reading,
+            slots: [Slot {
+                state: SlotState::Free,
+            }; 8],
+        };
+        if (own.0 <= 253) & (1 <= limit) & (limit <= 60000) {
+            return Opened {
+                receiver: receiver,
+                answer: Opening::Accepted,
+            };
+        }
+        Opened {
+            receiver: receiver,
+            answer: Opening::Refused(Refusal::OutOfBounds),
+        }
+    }
 }
