@@ -1,4 +1,5 @@
 pub mod Slots
 pub mod Bounds
+pub mod Places
 pub mod Calls
 pub mod Answers

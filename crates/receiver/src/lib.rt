@@ -3,7 +3,11 @@ ghost use mathlib.Core.Path.{_≡_};
 ghost use Rattle.receiver.specs.Bounds.{opened};
 
 pub mod answer;
+pub mod bounds;
+pub mod place;
 pub mod slot;
+pub mod step;
+pub mod store;
 
 use answer::Opened;
 use answer::Opening;
@@ -41,7 +45,7 @@ impl Receiver {
                 state: SlotState::Free,
             }; 8],
         };
-        if (own.0 <= 253) & (1 <= limit) & (limit <= 60000) {
+        if bounds::opening_ok(own, limit) {
             return Opened {
                 receiver: receiver,
                 answer: Opening::Accepted,
