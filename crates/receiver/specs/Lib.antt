@@ -1,5 +1,3 @@
-pub mod Slots
 pub mod Bounds
-pub mod Places
 pub mod Calls
 pub mod Answers

@@ -1,20 +1,17 @@
 // The receiver: eight slots over one lent store (01, "Life of a session").
 ghost use mathlib.Core.Path.{_≡_};
-ghost use Rattle.receiver.specs.Bounds.{opened};
+ghost use Rattle.receiver.specs.Bounds.{inBounds, opened};
 
 pub mod answer;
-pub mod bounds;
-pub mod place;
-pub mod slot;
 pub mod step;
-pub mod store;
 
 use answer::Opened;
 use answer::Opening;
 use frame::Address;
 use frame::refusal::Refusal;
-use slot::Slot;
-use slot::SlotState;
+use slots::Slot;
+use slots::SlotState;
+use slots::bounds;
 
 // The receiver's record: the opening values, the last reading, and the slots.
 pub struct Receiver {
@@ -26,9 +23,9 @@ pub struct Receiver {
 }
 
 impl Receiver {
-    pub const SLOTS: usize = 8;
+    pub const SLOTS: usize = slots::SLOTS;
 
-    pub const SLOT_BYTES: usize = 4096;
+    pub const SLOT_BYTES: usize = slots::SLOT_BYTES;
 
     // the most segments that one CTS grants
     pub const GRANT: u8 = 16;
@@ -55,5 +52,12 @@ impl Receiver {
             receiver: receiver,
             answer: Opening::Refused(Refusal::OutOfBounds),
         }
+    }
+    // Whether the record is in bounds.
+    pub fn in_bounds(self) -> bool
+        ensures { λ r. ⌜ r ≡ inBounds self ⌝ }
+    {
+        let slots = self.slots;
+        bounds::opening_ok(self.own, self.limit) & bounds::slots_ok(slots, self.own)
     }
 }

@@ -5,9 +5,9 @@ ghost use Rattle.receiver.specs.Calls.{refused, withSlot};
 use super::Receiver;
 use super::answer::Answer;
 use super::answer::Stepped;
-use super::slot::Slot;
-use super::slot::SlotState;
 use frame::refusal::Refusal;
+use slots::Slot;
+use slots::SlotState;
 
 // A refusal that changes nothing.
 pub fn refuse(r: Receiver, n: Refusal) -> Stepped

@@ -4,8 +4,8 @@ use Rattle.receiver.proofs.Receiver.in_bounds.Statement.{statement}
 use Rattle.receiver.proofs.Receiver.in_bounds.Tie as tie
 use Rattle.receiver.proofs.Receiver.in_bounds.Reads as reads
 use Rattle.receiver.proofs.Receiver.in_bounds.Lts as lts
-use Rattle.receiver.proofs.bounds.opening_ok.Reads as opening-ok-reads
-use Rattle.receiver.proofs.bounds.slots_ok.Reads as slots-ok-reads
+use Rattle.slots.proofs.bounds.opening_ok.Reads as opening-ok-reads
+use Rattle.slots.proofs.bounds.slots_ok.Reads as slots-ok-reads
 
 -- src/bounds.rt:154:9
 opening-ok-requires : tie.Need-opening-ok-requires
