@@ -7,6 +7,8 @@ use Rattle.transport.specs.declared.response.Cts.{Cts}
 use Rattle.session.specs.declared.Session.{Session}
 use Rattle.session.specs.declared.segment.Judged.{Judged}
 use Rattle.session.specs.declared.segment.Judged.the-variants.{Refused, Ends, Takes}
+use Rattle.session.specs.declared.segment.Step.{Step}
+use Rattle.session.specs.declared.segment.Step.the-variants as step
 use Rattle.session.specs.Announcements.{isRts, grantOf}
 
 -- the bytes due in segment n: 60, or what remains
@@ -32,6 +34,10 @@ nextCount s n = grantOf (s .max) (s .segments .0 - n)
 abbrev pub nextCts : Session → ℕ → Cts
 nextCts s n = record { key = s .key; next = record { 0 = n + 1 }; count = nextCount s n; pgn = s .pgn }
 
+-- the last granted segment after segment n: a CTS moves it, nothing else does
+abbrev pub grantedBy : Session → ℕ → ℕ
+grantedBy s n = cond (ctsDue s n) (n + nextCount s n) (s .granted .0)
+
 -- the session after segment n was taken
 abbrev pub advancedBy : Session → ℕ → ℕ → Session
 advancedBy s n last =
@@ -43,6 +49,19 @@ advancedBy s n last =
       max = s .max;
       pgn = s .pgn;
       next = record { 0 = n + 1 };
-      granted = record { 0 = cond (ctsDue s n) (n + nextCount s n) (s .granted .0) };
+      granted = record { 0 = grantedBy s n };
       mark = last;
     }
+
+-- the session brought forward by segment n, with the CTS where one is due
+abbrev pub takenBy : Session → ℕ → ℕ → Step
+takenBy s n last = cond (ctsDue s n) (step.Grant (advancedBy s n last) (nextCts s n)) (step.Taken (advancedBy s n last))
+
+abbrev pub onSegment : Judged → Session → ℕ → ℕ → Step
+onSegment (Refused x) s n last = step.Refused x
+onSegment (Ends x) s n last = step.Ends x
+onSegment Takes s n last = takenBy s n last
+
+-- one segment: judged, and the session after it
+unfoldable pub stepOf : Session → ℕ → ℕ → ℕ → Step
+stepOf s n room last = onSegment (judgedOf s n room) s n last

@@ -1,0 +1,297 @@
+-- What follows from the rules of one session: its bounds are kept, and its segments lie in the message.
+use Prim.Native.Nat.{ℕ, _+_, _-_, _*_, _/_, _≤_, _<_}
+use mathlib.Core.Path.{_≡_, refl, sym, _∙_}
+use mathlib.Core.Logic.{_⊎_, inl, inr}
+use mathlib.Core.Bool.{Bool, true, false, cond, not, _&&_, _||_, or-assoc, false≢true}
+use mathlib.Core.List.{List, [], _∷_}
+use native.Mathlib.Omega.{arith}
+use lib.Dec.{eqb, leb, ltb}
+use borrow.Author.Tests.{ltb-true, ltb-false, leb-true, eqb-true, eqb-false, le-leb, eq-eqb, not-false}
+use Rattle.laws.specs.Choice.{or-stop, each-of, all-of}
+use Rattle.frame.specs.Pgn.{pgnOk}
+use Rattle.frame.specs.declared.refusal.Refusal.{Refusal}
+use Rattle.frame.specs.declared.refusal.Refusal.the-variants.{PgnForm, AnnouncementForm, TooLong, Assurance, AlreadyTaken, OutOfSequence, SegmentCut}
+use Rattle.transport.specs.declared.Key.{Key}
+use Rattle.transport.specs.declared.Kind.{Kind}
+use Rattle.transport.specs.declared.control.Announcement.{Announcement}
+use Rattle.session.specs.declared.Session.{Session}
+use Rattle.session.specs.declared.announcement.Form.{Form}
+use Rattle.session.specs.declared.announcement.Form.the-variants.{Good, Bad}
+use Rattle.session.specs.declared.segment.Judged.{Judged}
+use Rattle.session.specs.declared.segment.Judged.the-variants.{Refused, Ends, Takes}
+use Rattle.session.specs.Announcements.{isRts, badNumbers, formOf, grantOf, sessionOf}
+use Rattle.session.specs.Segments.{dueOf, judgedOf, ctsDue, advancedBy}
+use Rattle.session.specs.Bounds.{announcedOk, progressOk, Agreed, AgreedIn, Ahead, Progress}
+
+-- ---- tests
+
+-- a test that was passed, where its answer is not the one given
+pub passed : {A : Type 0} (t : Bool) (x y z : A) → (x ≡ z → ⊥) → cond t x y ≡ z → (t ≡ false) × (y ≡ z)
+passed true x y z n e = absurd (n e)
+passed false x y z n e = (refl, e)
+
+or-false-left : (a b : Bool) → (a || b) ≡ false → a ≡ false
+or-false-left true b e = e
+or-false-left false b e = refl
+
+or-false-right : (a b : Bool) → (a || b) ≡ false → b ≡ false
+or-false-right true b e = cc
+or-false-right false b e = e
+
+not-both : (a b : Bool) → (a && b) ≡ false → a ≡ true → b ≡ false
+not-both true b e h = e
+not-both false b e h = cc
+
+implied : (a b : Bool) → (not a || b) ≡ true → a ≡ true → b ≡ true
+implied true b e h = e
+implied false b e h = cc
+
+implies : (a b : Bool) → (a ≡ true → b ≡ true) → (not a || b) ≡ true
+implies true b f = f refl
+implies false b f = refl
+
+one-of : (a b : Bool) → (a || b) ≡ true → (a ≡ true) ⊎ (b ≡ true)
+one-of true b e = inl refl
+one-of false b e = inr e
+
+or-right-true : (a b : Bool) → b ≡ true → (a || b) ≡ true
+or-right-true true b e = refl
+or-right-true false b e = e
+
+-- ---- grants
+
+pub grant-most : (max left : ℕ) → grantOf max left ≤ 16
+unfolding grantOf
+grant-most max left = omega arith
+
+pub grant-left : (max left : ℕ) → grantOf max left ≤ left
+unfolding grantOf
+grant-left max left = omega arith
+
+pub grant-some : (max left : ℕ) → 1 ≤ max → 1 ≤ left → 1 ≤ grantOf max left
+unfolding grantOf
+grant-some max left m l = omega arith
+
+-- the last granted after segment n, whether or not a CTS is due
+pub grant-next : (n granted segments max : ℕ) → 1 ≤ max → n ≤ segments → n ≤ granted → granted ≤ segments
+    → Ahead (n + 1) (cond (eqb n granted && ltb n segments) (n + grantOf max (segments - n)) granted) segments
+grant-next n granted segments max m l g h = go (eqb n granted) refl (ltb n segments) refl
+  where
+    go : (a : Bool) → eqb n granted ≡ a → (b : Bool) → ltb n segments ≡ b
+        → Ahead (n + 1) (cond (a && b) (n + grantOf max (segments - n)) granted) segments
+    go true e true f =
+        let u : n < segments = ltb-true n segments f in
+        let some : 1 ≤ grantOf max (segments - n) = grant-some max (segments - n) m (omega arith) in
+        let left : grantOf max (segments - n) ≤ segments - n = grant-left max (segments - n) in
+        inl (omega arith, omega arith)
+    go true e false f =
+        let u : segments ≤ n = ltb-false n segments f in
+        let q : n ≡ granted = eqb-true n granted e in
+        inr (omega arith, omega arith)
+    go false e b f =
+        let q : n ≡ granted → ⊥ = eqb-false n granted e in
+        inl (omega arith, h)
+
+-- ---- an announcement of good form
+
+bad≢good : (x : Refusal) → Bad x ≡ Good → ⊥
+bad≢good x e = let z : _≡_ {A = ℕ} 0 1 = cc in omega arith
+
+-- the numbers agree, and no assurance data is announced
+pub form-agreed : (a : Announcement) → formOf a ≡ Good
+    → Agreed (a .kind) (a .total .0) (a .segments .0) (a .max) (a .pgn) × (a .assurance ≡ 0)
+unfolding formOf
+form-agreed a e =
+    let p₁ = passed (badNumbers a) _ _ _ (bad≢good _) e in
+    let p₂ = passed (ltb 4096 (a .total .0)) _ _ _ (bad≢good _) (p₁ .1) in
+    let p₃ = passed (not (eqb (a .assurance) 0)) _ _ _ (bad≢good _) (p₂ .1) in
+    let p₄ = passed (not (pgnOk (a .pgn))) _ _ _ (bad≢good _) (p₃ .1) in
+    let none : Bool = eqb (a .total .0) 0 in
+    let right : Bool = eqb (a .segments .0) ((a .total .0 + 59) / 60) in
+    let mute : Bool = isRts (a .kind) && eqb (a .max) 0 in
+    let q = or-false-left (none || not right) mute (p₁ .0) in
+    let some : a .total .0 ≡ 0 → ⊥ = eqb-false _ _ (or-false-left none (not right) q) in (
+      record {
+        some = omega arith;
+        fits = ltb-false _ _ (p₂ .0);
+        count = eqb-true _ _ (not-false right (or-false-right none (not right) q));
+        form = not-false _ (p₄ .0);
+        grants =
+            λ r.
+            let m : a .max ≡ 0 → ⊥ = eqb-false _ _ (not-both _ _ (or-false-right (none || not right) mute (p₁ .0)) r) in
+            omega arith;
+      },
+      eqb-true _ _ (not-false _ (p₃ .0)),
+    )
+
+-- ---- bounds as tests and as facts
+
+announced-tests : Session → List Bool
+announced-tests s =
+    leb 1 (s .total .0)
+    ∷ leb (s .total .0) 4096
+    ∷ eqb (s .segments .0) ((s .total .0 + 59) / 60)
+    ∷ pgnOk (s .pgn)
+    ∷ (not (isRts (s .kind)) || leb 1 (s .max))
+    ∷ []
+
+pub announced-agreed : (s : Session) → announcedOk s ≡ true → AgreedIn s
+unfolding announced-tests
+announced-agreed s e =
+    let t = each-of (announced-tests s) e in
+    record {
+      some = leb-true _ _ (t .0);
+      fits = leb-true _ _ (t .1 .0);
+      count = eqb-true _ _ (t .1 .1 .0);
+      form = t .1 .1 .1 .0;
+      grants = λ r. leb-true _ _ (implied _ _ (t .1 .1 .1 .1 .0) r);
+    }
+
+pub agreed-announced : (s : Session) → AgreedIn s → announcedOk s ≡ true
+unfolding announced-tests
+agreed-announced s a =
+    all-of (announced-tests s) (
+      le-leb _ _ (a .some),
+      (
+        le-leb _ _ (a .fits),
+        (eq-eqb _ _ (a .count), (a .form, (implies _ _ (λ r. le-leb _ _ (a .grants r)), tt))),
+      ),
+    )
+
+module _ (s : Session) where
+  rts : Bool
+  rts = isRts (s .kind)
+
+  waits : Bool
+  waits = leb (s .next .0) (s .granted .0) && leb (s .granted .0) (s .segments .0)
+
+  over : Bool
+  over = eqb (s .next .0) (s .segments .0 + 1) && eqb (s .granted .0) (s .segments .0)
+
+  progress-tests : List Bool
+  progress-tests =
+      leb 1 (s .next .0) ∷ leb (s .next .0) (s .segments .0 + 1) ∷ (not rts || waits || over) ∷ []
+
+  pub progress-facts : progressOk s ≡ true → Progress s
+  unfolding rts waits over progress-tests
+  progress-facts e =
+      let t = each-of progress-tests e in
+      record {
+        low = leb-true _ _ (t .0);
+        high = leb-true _ _ (t .1 .0);
+        ahead = λ r. by (one-of waits over (implied rts (waits || over) (sym (or-assoc (not rts) waits over) ∙ t .1 .1 .0) r));
+      }
+    where
+      by : (waits ≡ true) ⊎ (over ≡ true) → Ahead (s .next .0) (s .granted .0) (s .segments .0)
+      by (inl w) = let b = each-of (leb (s .next .0) (s .granted .0) ∷ leb (s .granted .0) (s .segments .0) ∷ []) w in inl (leb-true _ _ (b .0), leb-true _ _ (b .1 .0))
+      by (inr w) = let b = each-of (eqb (s .next .0) (s .segments .0 + 1) ∷ eqb (s .granted .0) (s .segments .0) ∷ []) w in inr (eqb-true _ _ (b .0), eqb-true _ _ (b .1 .0))
+
+  pub facts-progress : Progress s → progressOk s ≡ true
+  unfolding rts waits over progress-tests
+  facts-progress p =
+      all-of progress-tests (
+        le-leb _ _ (p .low),
+        (
+          le-leb _ _ (p .high),
+          (or-assoc (not rts) waits over ∙ implies rts (waits || over) (λ r. by (p .ahead r)), tt),
+        ),
+      )
+    where
+      by : Ahead (s .next .0) (s .granted .0) (s .segments .0) → (waits || over) ≡ true
+      by (inl w) =
+          sym (or-stop waits over (all-of (leb (s .next .0) (s .granted .0) ∷ leb (s .granted .0) (s .segments .0) ∷ []) (le-leb _ _ (w .0), (le-leb _ _ (w .1), tt))))
+      by (inr w) =
+          or-right-true waits over (all-of (eqb (s .next .0) (s .segments .0 + 1) ∷ eqb (s .granted .0) (s .segments .0) ∷ []) (eq-eqb _ _ (w .0), (eq-eqb _ _ (w .1), tt)))
+
+-- ---- a session is in bounds when it opens
+
+pub opened-agreed : (k : Key) (a : Announcement) (last : ℕ) → formOf a ≡ Good → AgreedIn (sessionOf k a last)
+opened-agreed k a last e = form-agreed a e .0
+
+pub opened-progress : (k : Key) (a : Announcement) (last : ℕ) → formOf a ≡ Good → Progress (sessionOf k a last)
+opened-progress k a last e =
+    let f = form-agreed a e .0 in
+    let some : 1 ≤ a .segments .0 = omega arith in
+    record { low = omega arith; high = omega arith; ahead = λ r. by (isRts (a .kind)) r some (f .grants r) }
+  where
+    by : (rts : Bool) → rts ≡ true → 1 ≤ a .segments .0 → 1 ≤ a .max
+        → Ahead 1 (cond rts (grantOf (a .max) (a .segments .0)) 0) (a .segments .0)
+    by true r l m = inl (grant-some _ _ m l, grant-left _ _)
+    by false r l m = absurd (false≢true r)
+
+-- ---- a segment that is taken
+
+pub record Taken (s : Session) (n room : ℕ) : Type 0 where
+  pub next : n ≡ s .next .0
+  pub low : 1 ≤ n
+  pub high : n ≤ s .segments .0
+  pub enough : dueOf (s .total .0) n ≤ room
+
+refused≢takes : (x : Refusal) → Refused x ≡ Takes → ⊥
+refused≢takes x e = let z : _≡_ {A = ℕ} 0 1 = cc in omega arith
+
+ends≢takes : (x : Refusal) → Ends x ≡ Takes → ⊥
+ends≢takes x e = let z : _≡_ {A = ℕ} 0 1 = cc in omega arith
+
+pub taken : (s : Session) (n room : ℕ) → judgedOf s n room ≡ Takes → Taken s n room
+unfolding judgedOf
+taken s n room e =
+    let p₁ = passed (eqb n 0 || ltb n (s .next .0)) _ _ _ (refused≢takes _) e in
+    let p₂ = passed (ltb (s .next .0) n || ltb (s .segments .0) n) _ _ _ (ends≢takes _) (p₁ .1) in
+    let p₃ = passed (ltb room (dueOf (s .total .0) n)) _ _ _ (refused≢takes _) (p₂ .1) in
+    let not-zero : n ≡ 0 → ⊥ = eqb-false _ _ (or-false-left _ _ (p₁ .0)) in
+    let not-below : s .next .0 ≤ n = ltb-false _ _ (or-false-right (eqb n 0) _ (p₁ .0)) in
+    let not-above : n ≤ s .next .0 = ltb-false _ _ (or-false-left _ _ (p₂ .0)) in
+    record {
+      next = omega arith;
+      low = omega arith;
+      high = ltb-false _ _ (or-false-right (ltb (s .next .0) n) _ (p₂ .0));
+      enough = ltb-false _ _ (p₃ .0);
+    }
+
+-- ---- a session stays in bounds as segments are taken
+
+pub advanced-agreed : (s : Session) (n last : ℕ) → AgreedIn s → AgreedIn (advancedBy s n last)
+advanced-agreed s n last a = a
+
+pub advanced-progress : (s : Session) (n room last : ℕ) → AgreedIn s → Progress s → judgedOf s n room ≡ Takes → Progress (advancedBy s n last)
+advanced-progress s n room last a p e =
+    let t = taken s n room e in
+    record { low = omega arith; high = omega arith; ahead = λ r. by (isRts (s .kind)) r t (p .ahead r) (a .grants r) }
+  where
+    by : (rts : Bool) → rts ≡ true → Taken s n room → Ahead (s .next .0) (s .granted .0) (s .segments .0) → 1 ≤ s .max
+        → Ahead (n + 1) (cond (rts && eqb n (s .granted .0) && ltb n (s .segments .0)) (n + grantOf (s .max) (s .segments .0 - n)) (s .granted .0)) (s .segments .0)
+    by true r t (inl w) m = grant-next n (s .granted .0) (s .segments .0) (s .max) m (t .high) (omega arith) (w .1)
+    by true r t (inr w) m = absurd (omega arith)
+    by false r t w m = absurd (false≢true r)
+
+-- ---- where the data of a segment lies
+
+-- in the message
+pub segment-inside : (total n : ℕ) → 1 ≤ n → n ≤ (total + 59) / 60 → 60 * (n - 1) + dueOf total n ≤ total
+unfolding dueOf
+segment-inside total n l u = omega arith
+
+-- before every later one
+pub segment-apart : (total i n : ℕ) → 1 ≤ i → i < n → 60 * (i - 1) + dueOf total i ≤ 60 * (n - 1)
+unfolding dueOf
+segment-apart total i n l u = omega arith
+
+-- right after the one before it, and all of them make the message
+pub segment-joins : (total n : ℕ) → 1 ≤ n → n < (total + 59) / 60 → 60 * (n - 1) + dueOf total n ≡ 60 * n
+unfolding dueOf
+segment-joins total n l u = omega arith
+
+pub segment-last : (total : ℕ) → 1 ≤ total → 60 * ((total + 59) / 60 - 1) + dueOf total ((total + 59) / 60) ≡ total
+unfolding dueOf
+segment-last total l = omega arith
+
+pub due-most : (total n : ℕ) → dueOf total n ≤ 60
+unfolding dueOf
+due-most total n = omega arith
+
+-- the data of a segment that is taken lies in the message, and so in a slot
+pub taken-inside : (s : Session) (n room : ℕ) → AgreedIn s → judgedOf s n room ≡ Takes → 60 * (n - 1) + dueOf (s .total .0) n ≤ s .total .0
+taken-inside s n room a e =
+    let t = taken s n room e in
+    segment-inside (s .total .0) n (t .low) (omega arith)
