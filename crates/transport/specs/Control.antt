@@ -55,6 +55,9 @@ roleAt d = getD d 7 0 % 4
 abbrev pub abortPgnAt : List ℕ → ℕ
 abortPgnAt d = low24 d 9
 
+abbrev pub abortOf : List ℕ → Control
+abortOf d = cond (eqb (roleAt d) 0) (Abort (abortPgnAt d)) (Refused NotReceivers)
+
 -- RTS 0, BAM 4, EOMS 2, Abort 15 from the originator; any other is not a receiver's
 unfoldable pub controlOf : List ℕ → Control
 controlOf d =

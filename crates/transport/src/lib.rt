@@ -1,4 +1,7 @@
 // Transfer frames: FD.TP.CM and FD.TP.DT, read and written (01, "Transfer frames").
+ghost use mathlib.Core.Path.{_≡_};
+ghost use lib.ListN.{getD};
+
 pub mod control;
 pub mod reason;
 pub mod response;
@@ -18,4 +21,14 @@ pub struct Key {
 pub enum Kind {
     Rts,
     Bam,
+}
+
+// The first byte, 0 where there is none.
+fn first(bytes: &[u8]) -> u8
+    ensures { λ r. ⌜ r ≡ getD (now (bytes .entry)) 0 0 ⌝ }
+{
+    if bytes.len() == 0 {
+        return 0;
+    }
+    bytes[0]
 }

@@ -1,0 +1,102 @@
+use Prim.Native.Nat.{ℕ}
+use mathlib.Core.Path.{_≡_, refl, sym, ap, _∙_}
+use mathlib.Core.Bool.{Bool, cond, not, _&&_}
+use mathlib.Core.List.{List}
+use lib.Dec.{eqb}
+use lib.ListN.{length}
+use borrow.Author.Tests.{eq-eqb, ne-eqb}
+use Rattle.laws.specs.Choice.{then, else, and-stop}
+use Rattle.frame.specs.declared.refusal.Refusal.the-variants.{NotReceivers}
+use Rattle.transport.specs.declared.Kind.the-variants.{Rts, Bam}
+use Rattle.transport.specs.declared.control.Control.{Control}
+use Rattle.transport.specs.declared.control.Control.the-variants.{Announce, EndOfMessage, Abort, Refused}
+use Rattle.transport.specs.Control.{controlAt, announcementAt, statusAt, roleAt, abortPgnAt, abortOf, controlOf}
+use borrow.Author.Needs.{needs}
+use Rattle.transport.proofs.control.read_control.Statement.{statement}
+use Rattle.transport.proofs.control.read_control.Tie as tie
+use Rattle.transport.proofs.control.read_control.Reads as reads
+use Rattle.transport.proofs.control.read_control.Lts as lts
+use Rattle.transport.proofs.control.read_abort.Reads as read-abort-reads
+use Rattle.transport.proofs.control.read_announcement.Reads as read-announcement-reads
+use Rattle.transport.proofs.control.read_status.Reads as read-status-reads
+
+-- controlOf, for a frame of 12 bytes, by its control
+abbrev byControl : List ℕ → ℕ → Control
+byControl d n =
+    cond (eqb n 0) (Announce (announcementAt Rts d))
+    (cond (eqb n 4) (Announce (announcementAt Bam d))
+    (cond (eqb n 2) (EndOfMessage (statusAt d))
+    (cond (eqb n 15 && eqb (roleAt d) 0) (Abort (abortPgnAt d))
+    (Refused NotReceivers))))
+
+with-control : (d : List ℕ) (n : ℕ) (r : Control) → length d ≡ 12 → controlAt d ≡ n → r ≡ byControl d n → r ≡ controlOf d
+unfolding controlOf
+with-control d n r l k e = else (not (eqb (length d) 12)) r _ _ (ap not (eq-eqb (length d) 12 l)) (e ∙ ap (byControl d) (sym k))
+
+with-other : (d : List ℕ) (n : ℕ) → (n ≡ 0 → ⊥) → (n ≡ 4 → ⊥) → (n ≡ 2 → ⊥) → (n ≡ 15 → ⊥) → Refused NotReceivers ≡ byControl d n
+with-other d n a b e f =
+    else (eqb n 0) _ _ _ (ne-eqb n 0 a)
+    (else (eqb n 4) _ _ _ (ne-eqb n 4 b)
+    (else (eqb n 2) _ _ _ (ne-eqb n 2 e)
+    (else (eqb n 15 && eqb (roleAt d) 0) _ _ _ (sym (and-stop (eqb n 15) (eqb (roleAt d) 0) (ne-eqb n 15 f))) refl)))
+
+-- src/control.rt:100:9
+returns : tie.Need-returns
+unfolding controlOf
+returns c = then _ _ _ _ (ap not (ne-eqb _ _ (c .if1 .taken))) refl
+
+-- src/control.rt:102:11
+shared-slice-read-match : tie.Need-shared-slice-read-match
+shared-slice-read-match c = search needs
+
+-- src/control.rt:103:32
+read-announcement-requires : tie.Need-read-announcement-requires
+read-announcement-requires c κs = search needs
+
+-- src/control.rt:104:32
+read-announcement-requires-2 : tie.Need-read-announcement-requires-2
+read-announcement-requires-2 c κs = search needs
+
+-- src/control.rt:105:36
+read-status-requires : tie.Need-read-status-requires
+read-status-requires c κs = search needs
+
+-- src/control.rt:106:15
+read-abort-requires : tie.Need-read-abort-requires
+read-abort-requires c κs = search needs
+
+-- src/control.rt:96:1
+returns-2 : tie.Need-returns-2
+returns-2 c = with-control _ 0 _ (c .before .before .before .if1 .left) (c .before .match .keys1) (ap Announce (c .read-announcement .ensures))
+
+-- src/control.rt:96:1
+returns-3 : tie.Need-returns-3
+returns-3 c = with-control _ 4 _ (c .before .before .before .if1 .left) (c .before .match .keys2) (ap Announce (c .read-announcement2 .ensures))
+
+-- src/control.rt:96:1
+returns-4 : tie.Need-returns-4
+returns-4 c = with-control _ 2 _ (c .before .before .before .if1 .left) (c .before .match .keys3) (ap EndOfMessage (c .read-status .ensures))
+
+-- src/control.rt:96:1
+returns-5 : tie.Need-returns-5
+returns-5 c = with-control _ 15 _ (c .before .before .before .if1 .left) (c .before .match .keys4) (c .read-abort .ensures)
+
+-- src/control.rt:96:1
+returns-6 : tie.Need-returns-6
+returns-6 c = with-control _ _ _ (c .before .before .if1 .left) refl (with-other (c .before .before .before .before .args .bytes .now) _ (c .match .rest .0 .0 .0 .1) (c .match .rest .0 .0 .1) (c .match .rest .0 .1) (c .match .rest .1))
+
+pub read-control-spec : {M : Type 1} → statement M
+read-control-spec =
+    tie.close
+    (tie.spec
+    returns
+    shared-slice-read-match
+    read-announcement-requires
+    read-announcement-requires-2
+    read-status-requires
+    read-abort-requires
+    returns-2
+    returns-3
+    returns-4
+    returns-5
+    returns-6)

@@ -1,0 +1,91 @@
+use mathlib.Core.Path.{refl}
+use Rattle.transport.proofs.Written.{same-byte, head-byte, low3-bytes}
+use Rattle.transport.specs.Responses.{responseBytes}
+use borrow.Author.Needs.{needs}
+use Rattle.transport.proofs.response.eoma_bytes.Statement.{statement}
+use Rattle.transport.proofs.response.eoma_bytes.Tie as tie
+use Rattle.transport.proofs.response.eoma_bytes.Reads as reads
+use Rattle.transport.proofs.response.eoma_bytes.Lts as lts
+use Rattle.frame.proofs.octet.low_byte.Reads as low-byte-reads
+use Rattle.frame.proofs.octet.wide.Reads as wide-reads
+
+-- src/response.rt:87:27
+wide-requires : tie.Need-wide-requires
+wide-requires c κs = search needs
+
+-- src/response.rt:87:22
+mul-low-byte : tie.Need-mul-low-byte
+mul-low-byte c = search needs
+
+-- src/response.rt:87:18
+add-low-byte : tie.Need-add-low-byte
+add-low-byte c = search needs
+
+-- src/response.rt:87:9
+low-byte-requires : tie.Need-low-byte-requires
+low-byte-requires c κs = search needs
+
+-- src/response.rt:88:9
+low-byte-requires-2 : tie.Need-low-byte-requires-2
+low-byte-requires-2 c κs = search needs
+
+-- src/response.rt:89:9
+low-byte-requires-3 : tie.Need-low-byte-requires-3
+low-byte-requires-3 c κs = search needs
+
+-- src/response.rt:90:9
+low-byte-requires-4 : tie.Need-low-byte-requires-4
+low-byte-requires-4 c κs = search needs
+
+-- src/response.rt:91:9
+low-byte-requires-5 : tie.Need-low-byte-requires-5
+low-byte-requires-5 c κs = search needs
+
+-- src/response.rt:92:9
+low-byte-requires-6 : tie.Need-low-byte-requires-6
+low-byte-requires-6 c κs = search needs
+
+-- src/response.rt:93:9
+low-byte-requires-7 : tie.Need-low-byte-requires-7
+low-byte-requires-7 c κs = search needs
+
+-- src/response.rt:96:9
+low-byte-requires-8 : tie.Need-low-byte-requires-8
+low-byte-requires-8 c κs = search needs
+
+-- src/response.rt:97:9
+low-byte-requires-9 : tie.Need-low-byte-requires-9
+low-byte-requires-9 c κs = search needs
+
+-- src/response.rt:98:9
+low-byte-requires-10 : tie.Need-low-byte-requires-10
+low-byte-requires-10 c κs = search needs
+
+-- src/response.rt:83:1
+returns : tie.Need-returns
+unfolding responseBytes
+returns c =
+    head-byte _ _ _ _ (c .before .before .before .before .before .before .before .before .before .before .before .before .before .before .before .before .wide .ensures .0) (c .before .before .before .before .before .before .before .before .before .before .before .before .before .before .before .low-byte .ensures)
+    (low3-bytes _ _ _ _ (c .before .before .before .before .before .before .before .before .before .before .before .before .before .before .low-byte2 .ensures) (c .before .before .before .before .before .before .before .before .before .before .before .before .low-byte3 .ensures) (c .before .before .before .before .before .before .before .before .before .before .low-byte4 .ensures)
+    (low3-bytes _ _ _ _ (c .before .before .before .before .before .before .before .before .before .low-byte5 .ensures) (c .before .before .before .before .before .before .before .low-byte6 .ensures) (c .before .before .before .before .before .low-byte7 .ensures)
+    (same-byte _ (same-byte _
+    (low3-bytes _ _ _ _ (c .before .before .before .before .low-byte8 .ensures) (c .before .before .low-byte9 .ensures) (c .low-byte10 .ensures) refl)))))
+
+pub eoma-bytes-spec : {M : Type 1} → statement M
+eoma-bytes-spec =
+    tie.close
+    (tie.spec
+    wide-requires
+    mul-low-byte
+    add-low-byte
+    low-byte-requires
+    low-byte-requires-2
+    low-byte-requires-3
+    low-byte-requires-4
+    low-byte-requires-5
+    low-byte-requires-6
+    low-byte-requires-7
+    low-byte-requires-8
+    low-byte-requires-9
+    low-byte-requires-10
+    returns)

@@ -1,0 +1,93 @@
+use Prim.Native.Nat.{ℕ}
+use mathlib.Core.Path.{_≡_, refl, sym, ap, _∙_}
+use mathlib.Core.Bool.{not}
+use mathlib.Core.List.{List}
+use lib.Dec.{eqb}
+use lib.ListN.{length}
+use borrow.Author.Tests.{eq-eqb, ne-eqb}
+use Rattle.laws.specs.Choice.{then, else}
+use Rattle.frame.specs.declared.judge.Route.{Route}
+use Rattle.frame.specs.declared.refusal.Refusal.the-variants.{NotReceivers}
+use Rattle.transport.specs.Control.{controlAt}
+use Rattle.transport.specs.declared.Key.{Key}
+use Rattle.transport.specs.declared.response.Response.the-variants.{Cts, Eoma}
+use Rattle.transport.specs.declared.response.ResponseRead.{ResponseRead}
+use Rattle.transport.specs.declared.response.ResponseRead.the-variants.{Response, Refused}
+use Rattle.transport.specs.Responses.{sessionKeyOf, byResponse, responseOf}
+use borrow.Author.Needs.{needs}
+use Rattle.transport.proofs.response.read_response.Statement.{statement}
+use Rattle.transport.proofs.response.read_response.Tie as tie
+use Rattle.transport.proofs.response.read_response.Reads as reads
+use Rattle.transport.proofs.response.read_response.Lts as lts
+use Rattle.transport.proofs.response.read_abort.Reads as read-abort-reads
+use Rattle.transport.proofs.response.read_cts.Reads as read-cts-reads
+use Rattle.transport.proofs.response.read_eoma.Reads as read-eoma-reads
+use Rattle.transport.proofs.response.session_key.Reads as session-key-reads
+
+with-control : (route : Route) (d : List ℕ) (k : Key) (n : ℕ) (r : ResponseRead) → length d ≡ 12 → k ≡ sessionKeyOf route d → controlAt d ≡ n → r ≡ byResponse k d n → r ≡ responseOf route d
+unfolding responseOf
+with-control route d k n r l ke ce e =
+    else (not (eqb (length d) 12)) r _ _ (ap not (eq-eqb (length d) 12 l))
+    (e ∙ ap (λ (x : Key). byResponse x d n) ke ∙ ap (byResponse (sessionKeyOf route d) d) (sym ce))
+
+with-other : (k : Key) (d : List ℕ) (n : ℕ) → (n ≡ 1 → ⊥) → (n ≡ 3 → ⊥) → (n ≡ 15 → ⊥) → Refused NotReceivers ≡ byResponse k d n
+with-other k d n a b e =
+    else (eqb n 1) _ _ _ (ne-eqb n 1 a)
+    (else (eqb n 3) _ _ _ (ne-eqb n 3 b)
+    (else (eqb n 15) _ _ _ (ne-eqb n 15 e) refl))
+
+-- src/response.rt:194:9
+returns : tie.Need-returns
+unfolding responseOf
+returns c = then _ _ _ _ (ap not (ne-eqb _ _ (c .if1 .taken))) refl
+
+-- src/response.rt:196:9
+session-key-requires : tie.Need-session-key-requires
+session-key-requires c κs = search needs
+
+-- src/response.rt:197:11
+shared-slice-read-match : tie.Need-shared-slice-read-match
+shared-slice-read-match c = search needs
+
+-- src/response.rt:198:51
+read-cts-requires : tie.Need-read-cts-requires
+read-cts-requires c κs = search needs
+
+-- src/response.rt:199:52
+read-eoma-requires : tie.Need-read-eoma-requires
+read-eoma-requires c κs = search needs
+
+-- src/response.rt:200:15
+read-abort-requires : tie.Need-read-abort-requires
+read-abort-requires c κs = search needs
+
+-- src/response.rt:190:1
+returns-2 : tie.Need-returns-2
+returns-2 c = with-control _ _ _ 1 _ (c .before .before .before .before .if1 .left) (c .before .before .before .session-key .ensures) (c .before .match .keys1) (ap (λ f. Response (Cts f)) (c .read-cts .ensures))
+
+-- src/response.rt:190:1
+returns-3 : tie.Need-returns-3
+returns-3 c = with-control _ _ _ 3 _ (c .before .before .before .before .if1 .left) (c .before .before .before .session-key .ensures) (c .before .match .keys2) (ap (λ f. Response (Eoma f)) (c .read-eoma .ensures))
+
+-- src/response.rt:190:1
+returns-4 : tie.Need-returns-4
+returns-4 c = with-control _ _ _ 15 _ (c .before .before .before .before .if1 .left) (c .before .before .before .session-key .ensures) (c .before .match .keys3) (c .read-abort .ensures)
+
+-- src/response.rt:190:1
+returns-5 : tie.Need-returns-5
+returns-5 c = with-control _ _ _ _ _ (c .before .before .before .if1 .left) (c .before .before .session-key .ensures) refl (with-other _ (c .before .before .before .before .before .args .frame .now) _ (c .match .rest .0 .0 .1) (c .match .rest .0 .1) (c .match .rest .1))
+
+pub read-response-spec : {M : Type 1} → statement M
+read-response-spec =
+    tie.close
+    (tie.spec
+    returns
+    session-key-requires
+    shared-slice-read-match
+    read-cts-requires
+    read-eoma-requires
+    read-abort-requires
+    returns-2
+    returns-3
+    returns-4
+    returns-5)
