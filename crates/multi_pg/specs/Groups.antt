@@ -1,6 +1,6 @@
 -- What a Multi-PG frame says: 01, "Groups in one frame".
 use Prim.Native.Nat.{ℕ, zero, suc, _+_, _-_, _*_, _/_, _%_}
-use mathlib.Core.Bool.{Bool, cond, not}
+use mathlib.Core.Bool.{Bool, cond, not, _&&_}
 use mathlib.Core.List.{List, [], _∷_, map}
 use lib.Dec.{eqb, leb, ltb}
 use lib.ListN.{length, getD, take, drop}
@@ -35,6 +35,23 @@ dataLength d at = getD d (at + 3) 0
 
 abbrev pub groupAt : List ℕ → ℕ → Group
 groupAt d at = record { pgn = pgnAt d at; start = at + 4; len = dataLength d at }
+
+-- the same by the bytes themselves
+abbrev pub pgnOf : ℕ → ℕ → ℕ → ℕ
+pgnOf first second third = 65536 * (first % 4) + 256 * second + third
+
+-- the last four tests of a place, by the numbers of its header
+abbrev pub headed : ℕ → ℕ → ℕ → ℕ → ℕ → Step
+headed first pgn len start room =
+    cond (not (eqb (first / 32) 2)) (step.Fault ServiceType)
+    (cond (not (eqb (first / 4 % 8) 0)) (step.Fault TrailerFormat)
+    (cond (not (lowByteOk pgn)) (step.Fault PgnForm)
+    (cond (ltb room len) (step.Fault DataCut)
+    (step.At (record { pgn = pgn; start = start; len = len })))))
+
+-- none of those tests refuses: TOS 2 and TF 0 are 16 in the first byte's top six bits
+abbrev pub plainHead : ℕ → ℕ → ℕ → ℕ → Bool
+plainHead first pgn len room = eqb (first / 4) 16 && lowByteOk pgn && leb len room
 
 -- what stands at a place, in 01's order: end, 4, 6, 7, 8, 5
 abbrev pub stepAt : List ℕ → ℕ → Step
@@ -73,3 +90,46 @@ readFrom (suc n) d at = onStep (stepAt d at) (λ g. readFrom n d (g .start + g .
 -- a group takes 4 bytes at least, so a frame has no more groups than bytes
 unfoldable pub reading : List ℕ → Reading
 reading d = readFrom (suc (length d)) d 0
+
+abbrev pub judgementOf : Reading → Judgement
+judgementOf (good gs) = judgement.Good
+judgementOf (bad r) = judgement.Refused r
+
+-- a refused frame gives out no group
+abbrev pub groupsIn : Reading → List Group
+groupsIn (good gs) = gs
+groupsIn (bad r) = []
+
+abbrev pub groupsOf : List ℕ → List Group
+groupsOf d = groupsIn (reading d)
+
+-- ---- a reader: the place that it has come to
+
+abbrev pub startAt : ℕ → Judgement → ℕ
+startAt n judgement.Good = 0
+startAt n (judgement.Refused r) = n
+
+-- where a reader begins: at the end, if the frame is refused
+abbrev pub startOf : List ℕ → ℕ
+startOf d = startAt (length d) (judgementOf (reading d))
+
+abbrev pub onNext : Step → Next
+onNext (step.At g) = next.Given g (record { at = g .start + g .len })
+onNext step.End = next.End
+onNext (step.Fault r) = next.End
+
+abbrev pub nextAt : List ℕ → ℕ → Next
+nextAt d at = onNext (stepAt d at)
+
+-- ---- what a frame says, without places
+
+-- a group's PGN and its data
+pub record Content : Type 0 where
+  pub pgn : ℕ
+  pub bytes : List ℕ
+
+abbrev pub contentOf : List ℕ → Group → Content
+contentOf d g = record { pgn = g .pgn; bytes = take (g .len) (drop (g .start) d) }
+
+abbrev pub contents : List ℕ → List Group → List Content
+contents d gs = map (contentOf d) gs

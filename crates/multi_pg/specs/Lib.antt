@@ -1,1 +1,4 @@
 pub mod Groups
+pub mod Places
+pub mod Reader
+pub mod Table

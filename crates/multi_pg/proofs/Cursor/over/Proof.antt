@@ -1,0 +1,32 @@
+use mathlib.Core.Path.{sym, ap, _∙_}
+use lib.ListN.{length}
+use Rattle.multi_pg.specs.Groups.{startAt}
+use borrow.Author.Needs.{needs}
+use Rattle.multi_pg.proofs.Cursor.over.Statement.{statement}
+use Rattle.multi_pg.proofs.Cursor.over.Tie as tie
+use Rattle.multi_pg.proofs.Cursor.over.Reads as reads
+use Rattle.multi_pg.proofs.Cursor.over.Lts as lts
+use Rattle.multi_pg.proofs.read.judge.Reads as judge-reads
+
+-- src/lib.rt:43:15
+judge-requires : tie.Need-judge-requires
+judge-requires c κs = search needs
+
+-- src/lib.rt:44:32
+enum-told : tie.Need-enum-told
+enum-told c = search needs
+
+-- src/lib.rt:45:51
+enum-told-2 : tie.Need-enum-told-2
+enum-told-2 c = search needs
+
+-- src/lib.rt:40:5
+returns : tie.Need-returns
+returns c = ap (startAt (length (c .before .before .before .before .args .frame .now))) (sym (c .enum-told .given .1) ∙ c .before .before .judge .ensures)
+
+-- src/lib.rt:40:5
+returns-2 : tie.Need-returns-2
+returns-2 c = ap (startAt (length (c .before .before .before .before .args .frame .now))) (sym (c .enum-told2 .given .1) ∙ c .before .before .judge .ensures)
+
+pub over-spec : {M : Type 1} → statement M
+over-spec = tie.close (tie.spec judge-requires enum-told enum-told-2 returns returns-2)
