@@ -9,6 +9,7 @@ use answer::Opened;
 use answer::Opening;
 use frame::Address;
 use frame::refusal::Refusal;
+use session::grant;
 use slots::Slot;
 use slots::SlotState;
 use slots::bounds;
@@ -28,7 +29,7 @@ impl Receiver {
     pub const SLOT_BYTES: usize = slots::SLOT_BYTES;
 
     // the most segments that one CTS grants
-    pub const GRANT: u8 = 16;
+    pub const GRANT: u32 = grant::GRANT;
 
     // A receiver with no slot open; refused with 23 unless own is 0 to 253 and limit 1 to 60,000.
     pub fn open(own: Address, limit: u32, reading: u32) -> Opened

@@ -12,17 +12,9 @@ use super::search::holds_key;
 use frame::Address;
 use frame::pgn;
 use session::Session;
+use session::announcement::is_rts;
 use transport::Key;
 use transport::Kind;
-
-fn is_rts(kind: Kind) -> bool
-    ensures { λ r. ⌜ r ≡ isRts kind ⌝ }
-{
-    match kind {
-        Kind::Rts => true,
-        Kind::Bam => false,
-    }
-}
 
 // The DA of a transfer: the own address for RTS, 255 for BAM.
 fn destination(kind: Kind, own: Address) -> u8

@@ -4,7 +4,7 @@ use Rattle.slots.proofs.bounds.announced_ok.Tie as tie
 use Rattle.slots.proofs.bounds.announced_ok.Reads as reads
 use Rattle.slots.proofs.bounds.announced_ok.Lts as lts
 use Rattle.frame.proofs.pgn.is_pgn.Reads as is-pgn-reads
-use Rattle.slots.proofs.bounds.is_rts.Reads as is-rts-reads
+use Rattle.session.proofs.announcement.is_rts.Reads as is-rts-reads
 
 -- src/bounds.rt:48:17
 cast-total : tie.Need-cast-total

@@ -3,7 +3,7 @@ use Rattle.slots.proofs.bounds.progress_ok.Statement.{statement}
 use Rattle.slots.proofs.bounds.progress_ok.Tie as tie
 use Rattle.slots.proofs.bounds.progress_ok.Reads as reads
 use Rattle.slots.proofs.bounds.progress_ok.Lts as lts
-use Rattle.slots.proofs.bounds.is_rts.Reads as is-rts-reads
+use Rattle.session.proofs.announcement.is_rts.Reads as is-rts-reads
 
 -- src/bounds.rt:76:9
 is-rts-requires : tie.Need-is-rts-requires
