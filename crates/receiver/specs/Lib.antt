@@ -1,3 +1,4 @@
 pub mod Bounds
 pub mod Calls
 pub mod Answers
+pub mod Handed
