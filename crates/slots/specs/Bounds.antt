@@ -1,13 +1,13 @@
 -- When opening values and slots are in bounds: 01, "Numbered refusals".
-use Prim.Native.Nat.{ℕ, _+_, _/_}
+use Prim.Native.Nat.{ℕ}
 use mathlib.Core.List.{List, [], _∷_}
 use mathlib.Core.Bool.{Bool, true, false, cond, not, _&&_, _||_}
 use lib.Dec.{eqb, leb}
-use Rattle.frame.specs.Pgn.{pgnOk}
 use Rattle.frame.specs.declared.Address.{Address}
 use Rattle.transport.specs.declared.Key.{Key}
 use Rattle.session.specs.declared.Session.{Session}
 use Rattle.session.specs.Announcements.{isRts}
+use Rattle.session.specs.Bounds.{announcedOk, progressOk}
 use Rattle.slots.specs.declared.Slot.{Slot}
 use Rattle.slots.specs.declared.SlotState.{SlotState}
 use Rattle.slots.specs.declared.SlotState.the-variants.{Free, Open}
@@ -19,15 +19,6 @@ openingOk own limit = leb (own .0) 253 && leb 1 limit && leb limit 60000
 
 -- ---- one open slot
 
--- Total Bytes, segment count and PGN as an announcement allows, MAX SGMTS at least 1 for RTS
-abbrev pub announcedOk : Session → Bool
-announcedOk s =
-    leb 1 (s .total .0)
-    && leb (s .total .0) 4096
-    && eqb (s .segments .0) ((s .total .0 + 59) / 60)
-    && pgnOk (s .pgn)
-    && (not (isRts (s .kind)) || leb 1 (s .max))
-
 -- SA and DA as they are taken here, with the DA of the kind, and a session number to 15
 abbrev pub keyOk : Address → Session → Bool
 keyOk own s =
@@ -35,15 +26,6 @@ keyOk own s =
     && not (eqb (s .key .sa .0) (own .0))
     && eqb (s .key .da .0) (cond (isRts (s .kind)) (own .0) 255)
     && leb (s .key .session .0) 15
-
--- next segment from 1 to segments + 1; for RTS the last granted from the next segment to the count, or the count when all are in
-abbrev pub progressOk : Session → Bool
-progressOk s =
-    leb 1 (s .next .0)
-    && leb (s .next .0) (s .segments .0 + 1)
-    && (not (isRts (s .kind))
-    || (leb (s .next .0) (s .granted .0) && leb (s .granted .0) (s .segments .0))
-    || (eqb (s .next .0) (s .segments .0 + 1) && eqb (s .granted .0) (s .segments .0)))
 
 abbrev pub sessionOk : Address → Session → Bool
 sessionOk own s = announcedOk s && keyOk own s && progressOk s
