@@ -16,6 +16,8 @@ use Rattle.receiver.specs.declared.answer.Message.{Message}
 use Rattle.receiver.specs.declared.answer.Ending.{Ending}
 use Rattle.receiver.specs.declared.answer.Answer.{Answer}
 use Rattle.receiver.specs.declared.answer.Answer.the-variants.{Groups, Opened, Taken, Grant, HandedOver, Aborted, Ended, RefusedRts, Refused}
+use Rattle.receiver.specs.declared.answer.Sending.{Sending}
+use Rattle.receiver.specs.declared.answer.Sending.the-variants as sending
 use Rattle.receiver.specs.declared.answer.End.{End}
 use Rattle.receiver.specs.declared.answer.End.the-variants as end
 
@@ -41,16 +43,25 @@ endingSends e = cond (isRts (e .kind)) (some (abortFor (e .key) (e .refusal) (e 
 abbrev pub eomaFor : Message → Response
 eomaFor m = response.Eoma (record { key = m .key; total = m .total; segments = m .segments; pgn = m .pgn })
 
+-- a message by RTS is acknowledged, a BAM not
+abbrev pub messageSends : Message → Option Response
+messageSends m = cond (isRts (m .kind)) (some (eomaFor m)) none
+
 abbrev pub answerSends : Answer → Option Response
 answerSends Groups = none
 answerSends (Opened k) = none
 answerSends (Taken t) = none
 answerSends (Grant c) = some (response.Cts c)
-answerSends (HandedOver m) = cond (isRts (m .kind)) (some (eomaFor m)) none
+answerSends (HandedOver m) = messageSends m
 answerSends (Aborted k) = none
 answerSends (Ended e) = endingSends e
 answerSends (RefusedRts j) = some (abortFor (j .key) (j .refusal) (j .pgn))
 answerSends (Refused n) = none
+
+-- the same as an answer of the code
+abbrev pub sendingOf : Option Response → Sending
+sendingOf none = sending.Nothing
+sendingOf (some f) = sending.Send f
 
 abbrev pub endSends : End → Option Response
 endSends end.Stays = none

@@ -33,9 +33,9 @@ use Rattle.session.specs.Announcements.{isRts, misdirected, formOf, sessionOf, 
 use Rattle.session.specs.Segments.{dueOf, judgedOf, ctsDue, nextCts, advancedBy}
 use Rattle.session.specs.Ends.{statusMatches, isIdle}
 use Rattle.receiver.specs.declared.Receiver.{Receiver}
-use Rattle.receiver.specs.declared.slot.Slot.{Slot}
-use Rattle.receiver.specs.declared.slot.SlotState.{SlotState}
-use Rattle.receiver.specs.declared.slot.SlotState.the-variants.{Free, Open}
+use Rattle.slots.specs.declared.Slot.{Slot}
+use Rattle.slots.specs.declared.SlotState.{SlotState}
+use Rattle.slots.specs.declared.SlotState.the-variants.{Free, Open}
 use Rattle.receiver.specs.declared.answer.Message.{Message}
 use Rattle.receiver.specs.declared.answer.Ending.{Ending}
 use Rattle.receiver.specs.declared.answer.Answer.{Answer}
@@ -47,7 +47,7 @@ use Rattle.receiver.specs.declared.answer.SlotEnd.{SlotEnd}
 use Rattle.receiver.specs.declared.answer.Kept.{Kept}
 use Rattle.receiver.specs.declared.answer.Kept.the-variants as kept
 use Rattle.receiver.specs.declared.answer.Elapsed.{Elapsed}
-use Rattle.receiver.specs.Slots.{keyPlace, firstFree, freeSlot, onFound, onState}
+use Rattle.slots.specs.Slots.{keyPlace, firstFree, freeSlot, onFound, onState}
 use Rattle.receiver.specs.Bounds.{inBounds}
 
 abbrev pub answered : Receiver → Answer → Stepped

@@ -1,4 +1,4 @@
-pub mod Slots
 pub mod Bounds
 pub mod Calls
 pub mod Answers
+pub mod Handed

@@ -5,11 +5,11 @@ use mathlib.Core.Bool.{Bool, true, false, cond, _&&_}
 use lib.Dec.{eqb}
 use Rattle.session.specs.declared.Session.{Session}
 use Rattle.transport.specs.declared.Key.{Key}
-use Rattle.receiver.specs.declared.slot.Slot.{Slot}
-use Rattle.receiver.specs.declared.slot.SlotState.{SlotState}
-use Rattle.receiver.specs.declared.slot.SlotState.the-variants.{Free, Open}
-use Rattle.receiver.specs.declared.slot.Found.{Found}
-use Rattle.receiver.specs.declared.slot.Found.the-variants.{At, Nothing}
+use Rattle.slots.specs.declared.Slot.{Slot}
+use Rattle.slots.specs.declared.SlotState.{SlotState}
+use Rattle.slots.specs.declared.SlotState.the-variants.{Free, Open}
+use Rattle.slots.specs.declared.Found.{Found}
+use Rattle.slots.specs.declared.Found.the-variants.{At, Nothing}
 
 -- a key is SA, DA and session number, all three
 abbrev pub sameKey : Key → Key → Bool
