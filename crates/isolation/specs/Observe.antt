@@ -2,7 +2,7 @@
 use Prim.Native.Nat.{ℕ}
 use mathlib.Core.Bool.{Bool, true, false, cond, not, _&&_, _||_}
 use mathlib.Core.Option.{Option, none, some}
-use mathlib.Core.List.{List, [], _∷_, _++_}
+use mathlib.Core.List.{List, [], _∷_, _++_, map}
 use lib.Dec.{eqb}
 use lib.ListN.{length}
 use Rattle.frame.specs.Refusals.{numberOf}
@@ -67,12 +67,14 @@ isBody (some b) = true
 unfoldable pub isOwn : Values → ℕ → ℕ → List ℕ → Bool
 isOwn v k id d = isBody (bodyOf (v .own) id d) && eqb (frameKey id d) k
 
--- a frame that is not the key's own shows only that it ended the key's session or handed over for it: by the answer, or by the record
--- before (r) and after
+-- the key is open in the record before a call, and not in the record after it
+unfoldable pub lost : ℕ → Receiver → Receiver → Bool
+lost k r r′ = isOpenIn k r && not (isOpenIn k r′)
+
+-- a frame that is not the key's own shows only that it ended the key's session or handed over for it: by the answer, or by the records
 unfoldable pub strays : ℕ → Receiver → Outcome → List Seen
 strays k r o =
-    cond (touches k (o .0 .answer) || (isOpenIn k r && not (isOpenIn k (o .0 .next))))
-    (stray (replyOf (o .0 .answer) (o .1)) ∷ []) []
+    cond (touches k (o .0 .answer) || lost k r (o .0 .next)) (stray (replyOf (o .0 .answer) (o .1)) ∷ []) []
 
 unfoldable pub frameSeen : Values → ℕ → Receiver → ℕ → List ℕ → Outcome → List Seen
 frameSeen v k r id d o =
@@ -121,14 +123,10 @@ unfoldable pub frameElsewhere : Values → ℕ → Receiver → ℕ → List ℕ
 frameElsewhere v k r id d o =
     cond (isBoundsRefusal (o .0 .answer)) (strays k r o) (frameSeen v k r id d o)
 
--- any ending in the answer would still be seen
-unfoldable pub readingElsewhere : ℕ → Elapsed → List Seen
-readingElsewhere k e =
-    cond (eqb (keptNumber (e .answer)) 23) (withEndings (endingsOf k (e .ends))) (readingSeen k e)
-  where
-    withEndings : List Reply → List Seen
-    withEndings [] = []
-    withEndings (x ∷ xs) = stray x ∷ withEndings xs
+unfoldable pub readingElsewhere : ℕ → Receiver → Elapsed → List Seen
+readingElsewhere k r e =
+    cond (eqb (keptNumber (e .answer)) 23 && not (lost k r (e .next))) (map stray (endingsOf k (e .ends)))
+    (readingSeen k e)
 
 -- ---- a list of calls, made one after another: each gets the record that the last one returned, and the store that it left or another
 -- buffer
@@ -142,4 +140,4 @@ observed v k r m (lent (clock t) ∷ cs) =
 observed v k r m (elsewhere b e (frame id d) ∷ cs) =
     frameElsewhere v k r id d (frameAll r id d b) ++ observed v k (frameAll r id d b .0 .next) m cs
 observed v k r m (elsewhere b e (clock t) ∷ cs) =
-    readingElsewhere k (readingStep r t b) ++ observed v k (readingStep r t b .next) m cs
+    readingElsewhere k r (readingStep r t b) ++ observed v k (readingStep r t b .next) m cs

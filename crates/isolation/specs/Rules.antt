@@ -234,9 +234,10 @@ grant max left = least (least max 16) left
 -- opens with none taken; an RTS is answered by CTS from segment 1
 unfoldable pub opens : ℕ → ℕ → Announcement → Out
 opens k last a =
-    let count : ℕ = grant (a .max) (a .segments .0) in
-    (some (record { told = a; mark = last; granted = cond (isRts (a .kind)) count 0; pieces = [] }),
-      cond (isRts (a .kind)) (cts k 1 count (a .pgn)) (plain (opened (keyAt k))))
+    let count : ℕ = grant (a .max) (a .segments .0) in (
+      some (record { told = a; mark = last; granted = cond (isRts (a .kind)) count 0; pieces = [] }),
+      cond (isRts (a .kind)) (cts k 1 count (a .pgn)) (plain (opened (keyAt k))),
+    )
 
 -- 11 with nothing sent, 11, 12, 13, 8, 14, 15
 unfoldable pub announced : Address → ℕ → ℕ → Bool → Option Open → Announcement → Out
@@ -267,13 +268,15 @@ spent r n = isRts (r .told .kind) && (eqb n (r .granted) && ltb n (r .told .segm
 -- the data due is added, and the mark is the last reading; a grant used up is followed by a CTS
 unfoldable pub adds : ℕ → ℕ → Open → ℕ → List ℕ → Out
 adds k last r n d =
-    let count : ℕ = grant (r .told .max) (r .told .segments .0 - n) in
-    (some (record {
-      told = r .told;
-      mark = last;
-      granted = cond (spent r n) (n + count) (r .granted);
-      pieces = record { number = n; bytes = take (due (r .told .total .0) n) d } ∷ r .pieces;
-    }), cond (spent r n) (cts k (n + 1) count (r .told .pgn)) (plain (took (keyAt k) n)))
+    let count : ℕ = grant (r .told .max) (r .told .segments .0 - n) in (
+      some (record {
+        told = r .told;
+        mark = last;
+        granted = cond (spent r n) (n + count) (r .granted);
+        pieces = record { number = n; bytes = take (due (r .told .total .0) n) d } ∷ r .pieces;
+      }),
+      cond (spent r n) (cts k (n + 1) count (r .told .pgn)) (plain (took (keyAt k) n)),
+    )
 
 -- 18, 19, 20
 unfoldable pub segmentOpen : ℕ → ℕ → Open → ℕ → List ℕ → Out

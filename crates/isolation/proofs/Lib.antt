@@ -1,0 +1,5 @@
+pub mod Tests
+pub mod Slots
+pub mod Count
+pub mod Bytes
+pub mod Opened
