@@ -3,3 +3,7 @@ pub mod Slots
 pub mod Count
 pub mod Bytes
 pub mod Opened
+pub mod Same
+pub mod Pieces
+pub mod Sound
+pub mod Fit
