@@ -7,3 +7,4 @@ pub mod Same
 pub mod Pieces
 pub mod Sound
 pub mod Fit
+pub mod Single
