@@ -360,3 +360,66 @@ module _ (v : Values) (r : Receiver) (m : List ℕ) (whole : length m ≡ 32768)
           (grants-next (S.isRts (ρ .told .kind)) n (ρ .granted) (ρ .told .segments .0) (ρ .told .max) (h .rel .fine .max) small
             (subst (λ (z : ℕ). grantsOk (S.isRts (ρ .told .kind)) z (ρ .granted) (ρ .told .segments .0) ≡ true) (add-one (length (ρ .pieces))) (h .rel .fine .grants)));
       }
+
+  adds-fit : (n : ℕ) (d : List ℕ) → n ≡ suc (length (ρ .pieces)) → n ≤ ρ .told .segments .0 → dueOf (ρ .told .total .0) n ≤ length (dataAt d)
+      → Fit v r m k (some ρ) (C.taken r (h .slot) (recordOf k ρ) n, stored (h .slot) (recordOf k ρ) n d m) (adds k (r .last) ρ n (dataAt d))
+  adds-fit n d e small enough = rw e (adds-next d (rw e at small) (rw e at enough))
+
+  segment-fit : (sg : Segment) (d : List ℕ) → sg .room ≡ length (dataAt d)
+      → Fit v r m k (some ρ) (C.segmentOpen r (h .slot) (recordOf k ρ) sg d m) (R.segmentOpen k (r .last) ρ (sg .number .0) (dataAt d))
+  unfolding C.segmentOpen R.segmentOpen judgedOf
+  segment-fit sg d room =
+      fit-judged (judged.Refused AlreadyTaken) _ (h .slot) (recordOf k ρ) n d (eqb n 0 || ltb n next) (eqb n 0 || isTaken n (ρ .pieces)) before (λ _. refuse-fit v r m k (some ρ) AlreadyTaken) (λ a.
+      fit-judged (judged.Ends OutOfSequence) _ (h .slot) (recordOf k ρ) n d (ltb next n || ltb (ρ .told .segments .0) n) (ltb next n || ltb (ρ .told .segments .0) n) refl (λ _. ends-fit OutOfSequence) (λ b.
+      let l₀ : n ≡ 0 → ⊥ = eqb-false n 0 (or-left (eqb n 0) (ltb n next) a) in
+      let l₁ : next ≤ n = ltb-false n next (or-right (eqb n 0) (ltb n next) a) in
+      let l₂ : n ≤ next = ltb-false next n (or-left (ltb next n) (ltb (ρ .told .segments .0) n) b) in
+      let l₃ : n ≤ ρ .told .segments .0 = ltb-false (ρ .told .segments .0) n (or-right (ltb next n) (ltb (ρ .told .segments .0) n) b) in
+      fit-judged (judged.Refused SegmentCut) judged.Takes (h .slot) (recordOf k ρ) n d (ltb (sg .room) (dueOf (ρ .told .total .0) n)) (ltb (length (dataAt d)) (due (ρ .told .total .0) n))
+        (rw (due-same (ρ .told .total .0) n (omega arith), room)) (λ _. refuse-fit v r m k (some ρ) SegmentCut) (λ c.
+      adds-fit n d (omega arith) l₃ (rw room at (ltb-false (sg .room) (dueOf (ρ .told .total .0) n) c)))))
+    where
+      n : ℕ
+      n = sg .number .0
+      next : ℕ
+      next = length (ρ .pieces) + 1
+      before : (eqb (sg .number .0) 0 || isTaken (sg .number .0) (ρ .pieces)) ≡ (eqb (sg .number .0) 0 || ltb (sg .number .0) (length (ρ .pieces) + 1))
+      before =
+          ap (λ (xs : List Piece). eqb (sg .number .0) 0 || isTaken (sg .number .0) xs) (h .rel .pieces)
+          ∙ taken-same (ρ .told .total .0) (length (ρ .pieces)) (part (h .slot) m) (sg .number .0)
+
+-- ---- an own frame, by what it says
+
+abbrev pub bodyStep : Receiver → Key → Body → List ℕ → List ℕ → Outcome
+bodyStep r κ (announce a) d m = (announceStep r κ a, m)
+bodyStep r κ (segment format n x) d m = segmentStep r κ (record { format = format; number = record { 0 = n }; room = length x }) d m
+bodyStep r κ (status st) d m = (statusStep r κ st, m)
+bodyStep r κ (abort pgn) d m = (abortStep r κ pgn, m)
+
+-- a segment's data are the frame's from byte 5 on
+abbrev pub Reads : List ℕ → Body → Type 0
+Reads d (announce a) = Unit {0}
+Reads d (segment format n x) = x ≡ dataAt d
+Reads d (status st) = Unit {0}
+Reads d (abort pgn) = Unit {0}
+
+pub held-fit : (v : Values) (r : Receiver) (m : List ℕ) → length m ≡ 32768 → (k : ℕ) → Mine v k → (ρ : Open) → Held v r m k ρ → (eight : Bool) (b : Body) (d : List ℕ) → Reads d b
+    → Fit v r m k (some ρ) (bodyStep r (keyAt k) b d m) (rule v k (r .last) eight (some ρ) b)
+unfolding rule segmentStep
+held-fit v r m whole k me ρ h eight (announce a) d e = held-announce v r m whole k me ρ h eight a
+held-fit v r m whole k me ρ h eight (segment format n x) d e =
+    rw e (fit-cond (not (eqb format 0)) (not (eqb format 0)) refl (λ _. refuse-fit v r m k (some ρ) FormatIndicator)
+      (λ _. rw (h .found, h .state) (segment-fit v r m whole k me ρ h (record { format = format; number = record { 0 = n }; room = length (dataAt d) }) d refl)))
+held-fit v r m whole k me ρ h eight (status st) d e = held-status v r m whole k me ρ h st
+held-fit v r m whole k me ρ h eight (abort pgn) d e = held-abort v r m whole k me ρ h pgn
+
+pub shut-fit : (v : Values) (r : Receiver) (m : List ℕ) → length m ≡ 32768 → (k : ℕ) → Mine v k → keyPlace (keyAt k) (r .slots) ≡ Nothing
+    → (eight : Bool) → (Room r k → eight ≡ false) → (firstFree (r .slots) ≡ Nothing → eight ≡ true)
+    → ((i : ℕ) → firstFree (r .slots) ≡ At i → (i < 8) × Place (r .slots) i k)
+    → (b : Body) (d : List ℕ) → Reads d b → Fit v r m k none (bodyStep r (keyAt k) b d m) (rule v k (r .last) eight none b)
+unfolding rule segmentStep statusStep abortStep
+shut-fit v r m whole k me shut eight room full at (announce a) d e = closed-fit v r m whole k me shut eight room full at a
+shut-fit v r m whole k me shut eight room full at (segment format n x) d e =
+    fit-cond (not (eqb format 0)) (not (eqb format 0)) refl (λ _. refuse-fit v r m k none FormatIndicator) (λ _. rw shut (refuse-fit v r m k none KeyNotOpen))
+shut-fit v r m whole k me shut eight room full at (status st) d e = rw shut (refuse-fit v r m k none KeyNotOpen)
+shut-fit v r m whole k me shut eight room full at (abort pgn) d e = rw shut (refuse-fit v r m k none KeyNotOpen)
