@@ -8,3 +8,5 @@ pub mod Pieces
 pub mod Sound
 pub mod Fit
 pub mod Single
+pub mod Silent
+pub mod Read

@@ -128,16 +128,26 @@ readingElsewhere k r e =
     cond (eqb (keptNumber (e .answer)) 23 && not (lost k r (e .next))) (map stray (endingsOf k (e .ends)))
     (readingSeen k e)
 
--- ---- a list of calls, made one after another: each gets the record that the last one returned, and the store that it left or another
--- buffer
+-- ---- calls, made one after another: each gets the record that the last one returned, and the store that it left or another buffer
+
+unfoldable pub shows : Values → ℕ → Receiver → List ℕ → Call → List Seen
+shows v k r m (lent (frame id d)) = frameSeen v k r id d (frameAll r id d m)
+shows v k r m (lent (clock t)) = readingSeen k (readingStep r t m)
+shows v k r m (elsewhere b e (frame id d)) = frameElsewhere v k r id d (frameAll r id d b)
+shows v k r m (elsewhere b e (clock t)) = readingElsewhere k r (readingStep r t b)
+
+unfoldable pub recordAfter : Receiver → List ℕ → Call → Receiver
+recordAfter r m (lent (frame id d)) = frameAll r id d m .0 .next
+recordAfter r m (lent (clock t)) = readingStep r t m .next
+recordAfter r m (elsewhere b e (frame id d)) = frameAll r id d b .0 .next
+recordAfter r m (elsewhere b e (clock t)) = readingStep r t b .next
+
+-- a reading writes nothing, and a call that is lent another buffer has no way to the store
+unfoldable pub storeAfter : Receiver → List ℕ → Call → List ℕ
+storeAfter r m (lent (frame id d)) = frameAll r id d m .1
+storeAfter r m (lent (clock t)) = m
+storeAfter r m (elsewhere b e c) = m
 
 unfoldable pub observed : Values → ℕ → Receiver → List ℕ → List Call → List Seen
 observed v k r m [] = []
-observed v k r m (lent (frame id d) ∷ cs) =
-    frameSeen v k r id d (frameAll r id d m) ++ observed v k (frameAll r id d m .0 .next) (frameAll r id d m .1) cs
-observed v k r m (lent (clock t) ∷ cs) =
-    readingSeen k (readingStep r t m) ++ observed v k (readingStep r t m .next) m cs
-observed v k r m (elsewhere b e (frame id d) ∷ cs) =
-    frameElsewhere v k r id d (frameAll r id d b) ++ observed v k (frameAll r id d b .0 .next) m cs
-observed v k r m (elsewhere b e (clock t) ∷ cs) =
-    readingElsewhere k r (readingStep r t b) ++ observed v k (readingStep r t b .next) m cs
+observed v k r m (c ∷ cs) = shows v k r m c ++ observed v k (recordAfter r m c) (storeAfter r m c) cs
