@@ -10,3 +10,4 @@ pub mod Fit
 pub mod Single
 pub mod Silent
 pub mod Read
+pub mod Many
