@@ -11,3 +11,5 @@ pub mod Single
 pub mod Silent
 pub mod Read
 pub mod Many
+pub mod InBounds
+pub mod Demand3

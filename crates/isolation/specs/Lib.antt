@@ -1,3 +1,4 @@
 pub mod Rules
 pub mod World
 pub mod Observe
+pub mod Stands
