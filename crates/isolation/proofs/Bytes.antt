@@ -44,8 +44,9 @@ module _ (m : List ℕ) (whole : length m ≡ 32768) (i : ℕ) (low : i < 8) whe
     pub within-paste : Within i m (paste m (4096 * i + a) s n)
     unfolding part
     within-paste = record {
-        whole = length-paste m (4096 * i + a) s n (omega arith) enough ∙ whole;
-        others = λ j ne. window-other m (4096 * i + a) s n (omega arith) enough (4096 * j) 4096 (go j ne (decLt j i)) }
+      whole = length-paste m (4096 * i + a) s n (omega arith) enough ∙ whole;
+      others = λ j ne. window-other m (4096 * i + a) s n (omega arith) enough (4096 * j) 4096 (go j ne (decLt j i));
+    }
       where
         go : (j : ℕ) → (j ≡ i → ⊥) → Dec (j < i) → (4096 * j + 4096 ≤ 4096 * i + a) ⊎ (4096 * i + a + n ≤ 4096 * j)
         go j ne (yes h) = inl (omega arith)

@@ -55,10 +55,10 @@ unfolding slotsOk
 slots-true own small [] u a = refl
 slots-true own small (x ∷ l) u a =
     both (slotOk own x && not (twinOf x l)) (slotsOk own l)
-      (both (slotOk own x) (not (twinOf x l)) (a 0)
-        (alone-true _ (x .state) l (state-bounded own (x .state) small (a 0))
-          (λ k e. any-none k l (λ i. or-false (holds k (at l i)) (λ t. let z : 0 ≡ suc i = u 0 (suc i) k e t in omega arith)))))
-      (slots-true own small l (λ i j k g h. let z : suc i ≡ suc j = u (suc i) (suc j) k g h in omega arith) (λ i. a (suc i)))
+    (both (slotOk own x) (not (twinOf x l)) (a 0)
+    (alone-true _ (x .state) l (state-bounded own (x .state) small (a 0))
+    (λ k e. any-none k l (λ i. or-false (holds k (at l i)) (λ t. let z : 0 ≡ suc i = u 0 (suc i) k e t in omega arith)))))
+    (slots-true own small l (λ i j k g h. let z : suc i ≡ suc j = u (suc i) (suc j) k g h in omega arith) (λ i. a (suc i)))
 
 module _ (own : Address) (x : Slot) (l : Slots) (e : slotsOk own (x ∷ l) ≡ true) where
   head-ok : slotOk own x ≡ true
@@ -92,7 +92,7 @@ unfolding inBounds
 sim-bounds v r m w sim =
     rw (sim .own, sim .limit)
     (both (openingOk (v .own) (v .limit)) (slotsOk (v .own) (r .slots)) (sim .good)
-      (slots-true (v .own) (own-small (v .own) (v .limit) (sim .good)) (r .slots) (sim .uniq) (sim .ok)))
+    (slots-true (v .own) (own-small (v .own) (v .limit) (sim .good)) (r .slots) (sim .uniq) (sim .ok)))
 
 -- ---- a world for a record in bounds
 
@@ -114,8 +114,8 @@ pieces-cut i m total segments (suc n) h s u =
     let inside : 60 * (suc n - 1) + dueOf total (suc n) ≤ total = segment-inside total segments (suc n) s (omega arith) u in
     let fits : 60 * n + dueOf total (suc n) ≤ 4096 = (let z : 60 * n + dueOf total (suc n) ≤ total = rw g at inside in omega arith) in
     ap₂ (λ (b : List ℕ) (t : List Piece). record { number = suc n; bytes = b } ∷ t)
-      (rw (due-same total (suc n) (omega arith), g) (window-part i m (60 * n) (dueOf total (suc n)) fits))
-      (pieces-cut i m total segments n h s (omega arith))
+    (rw (due-same total (suc n) (omega arith), g) (window-part i m (60 * n) (dueOf total (suc n)) fits))
+    (pieces-cut i m total segments n h s (omega arith))
 
 same-record : (s : Session) (k n : ℕ) → s .key ≡ keyAt k → s .next .0 ≡ n
     → s ≡ record { key = keyAt k; kind = s .kind; total = s .total; segments = s .segments; max = s .max; pgn = s .pgn; next = record { 0 = n }; granted = s .granted; mark = s .mark }
@@ -131,41 +131,45 @@ explained v k i m (is.Open s) e h =
     let high : s .next .0 ≤ s .segments .0 + 1 = ok .high in
     let c : ℕ = s .next .0 - 1 in
     let is-cut : piecesOf i m (s .total .0) (s .next .0 - 1) ≡ cut (s .total .0) (s .next .0 - 1) (part i m) =
-      pieces-cut i m (s .total .0) (s .segments .0) (s .next .0 - 1) (ok .most) (ok .count) (omega arith) in
+    pieces-cut i m (s .total .0) (s .segments .0) (s .next .0 - 1) (ok .most) (ok .count) (omega arith) in
     let len : length (piecesOf i m (s .total .0) (s .next .0 - 1)) ≡ s .next .0 - 1 = ap length is-cut ∙ length-cut (s .total .0) (s .next .0 - 1) (part i m) in
     let same : s ≡ record { key = keyAt k; kind = s .kind; total = s .total; segments = s .segments; max = s .max; pgn = s .pgn; next = record { 0 = length (piecesOf i m (s .total .0) (s .next .0 - 1)) + 1 }; granted = s .granted; mark = s .mark } =
-      same-record s k (length (piecesOf i m (s .total .0) (s .next .0 - 1)) + 1) (open-key k s h) (omega arith) in
-    (same, record {
-      pieces = is-cut ∙ ap (λ (n : ℕ). cut (s .total .0) n (part i m)) (sym len);
-      plain = refl;
-      fine = subst (Ok (v .own)) same ok;
-    })
+    same-record s k (length (piecesOf i m (s .total .0) (s .next .0 - 1)) + 1) (open-key k s h) (omega arith) in (
+      same,
+      record {
+        pieces = is-cut ∙ ap (λ (n : ℕ). cut (s .total .0) n (part i m)) (sym len);
+        plain = refl;
+        fine = subst (Ok (v .own)) same ok;
+      },
+    )
 
 -- every record in bounds is one that a world of rules explains
 pub bounds-sim : (r : Receiver) (m : List ℕ) → inBounds r ≡ true → length (r .slots) ≡ 8 → length m ≡ 32768 → Sim (valuesOf r) r m (standsFor r m)
 unfolding inBounds standsFor
 bounds-sim r m e eight whole = record {
-    good = and-left (openingOk (r .own) (r .limit)) (slotsOk (r .own) (r .slots)) e;
-    own = refl;
-    limit = refl;
-    eight = eight;
-    whole = whole;
-    last = λ k. refl;
-    held = λ i k h. held′ i k h (keyPlace (keyAt k) (r .slots)) refl;
-    shut = λ k h. shut′ k h (keyPlace (keyAt k) (r .slots)) refl;
-    uniq = true-unique (r .own) (r .slots) slots;
-    ok = true-all (r .own) (r .slots) slots;
-  }
+  good = and-left (openingOk (r .own) (r .limit)) (slotsOk (r .own) (r .slots)) e;
+  own = refl;
+  limit = refl;
+  eight = eight;
+  whole = whole;
+  last = λ k. refl;
+  held = λ i k h. held′ i k h (keyPlace (keyAt k) (r .slots)) refl;
+  shut = λ k h. shut′ k h (keyPlace (keyAt k) (r .slots)) refl;
+  uniq = true-unique (r .own) (r .slots) slots;
+  ok = true-all (r .own) (r .slots) slots;
+}
   where
     slots : slotsOk (r .own) (r .slots) ≡ true
     slots = and-right (openingOk (r .own) (r .limit)) (slotsOk (r .own) (r .slots)) e
+
     held′ : (i k : ℕ) → holds k (at (r .slots) i) ≡ true → (f : Found) → keyPlace (keyAt k) (r .slots) ≡ f
-      → Ses (valuesOf r) k (at (r .slots) i) (part i m) (onFound f (λ j. openOf j m (at (r .slots) j)) none)
+        → Ses (valuesOf r) k (at (r .slots) i) (part i m) (onFound f (λ j. openOf j m (at (r .slots) j)) none)
     held′ i k h Nothing f = absurd (clash (holds k (at (r .slots) i)) h (find-none k (r .slots) f i))
     held′ i k h (At j) f =
         rw (true-unique (r .own) (r .slots) slots j i k (find-some k (r .slots) j f .0) h)
         (explained (valuesOf r) k i m (at (r .slots) i) (true-all (r .own) (r .slots) slots i) h)
+
     shut′ : (k : ℕ) → ((i : ℕ) → holds k (at (r .slots) i) ≡ false) → (f : Found) → keyPlace (keyAt k) (r .slots) ≡ f
-      → onFound f (λ j. openOf j m (at (r .slots) j)) none ≡ none
+        → onFound f (λ j. openOf j m (at (r .slots) j)) none ≡ none
     shut′ k h Nothing f = refl
     shut′ k h (At i) f = absurd (clash (holds k (at (r .slots) i)) (find-some k (r .slots) i f .0) (h i))

@@ -89,30 +89,33 @@ module _ (v : Values) (r : Receiver) (m : List ℕ) (w : World) (sim : Sim v r m
 
   moved : Sim v (withSlot r (mv .slot) (mv .state)) (o .1) w′
   moved = record {
-      good = sim .good;
-      own = sim .own;
-      limit = sim .limit;
-      eight = length-set (r .slots) (mv .slot) (record { state = mv .state }) ∙ sim .eight;
-      whole = mv .store .whole;
-      last = λ j. wl j ∙ sim .last j;
-      held = λ j n h. held′ j n (holder j n h);
-      shut = λ n h. shut′ n h (ℕ-discrete n k);
-      uniq = λ j₁ j₂ n g h. uniq′ j₁ j₂ n (holder j₁ n g) (holder j₂ n h);
-      ok = λ j. ok′ j (ℕ-discrete j (mv .slot));
-    }
+    good = sim .good;
+    own = sim .own;
+    limit = sim .limit;
+    eight = length-set (r .slots) (mv .slot) (record { state = mv .state }) ∙ sim .eight;
+    whole = mv .store .whole;
+    last = λ j. wl j ∙ sim .last j;
+    held = λ j n h. held′ j n (holder j n h);
+    shut = λ n h. shut′ n h (ℕ-discrete n k);
+    uniq = λ j₁ j₂ n g h. uniq′ j₁ j₂ n (holder j₁ n g) (holder j₂ n h);
+    ok = λ j. ok′ j (ℕ-discrete j (mv .slot));
+  }
     where
       held′ : (j n : ℕ) → Holder j n → Ses v n (at (set (r .slots) (mv .slot) (record { state = mv .state })) j) (part j (o .1)) (w′ n .session)
       held′ j n (inl e) = rw (e .0, e .1, at-same, wk) (mv .ses)
       held′ j n (inr e) = rw (at-other j (e .0), mv .store .others j (e .0), wo n (e .1)) (sim .held j n (e .2))
+
       shut′ : (n : ℕ) → ((j : ℕ) → holds n (at (set (r .slots) (mv .slot) (record { state = mv .state })) j) ≡ false) → Dec (n ≡ k) → w′ n .session ≡ none
       shut′ n h (yes e) = rw (e, wk) (ses-shut v k (mv .state) (part (mv .slot) (o .1)) y (mv .ses) (rw (at-same, e) at (h (mv .slot))) .1)
       shut′ n h (no e) =
           wo n e ∙ sim .shut n (λ j. or-false (holds n (at (r .slots) j)) (λ t. clash (holds n (at (r .slots) j)) t (rw (at-other j (λ z. e (mv .place j n t .0 z))) at (h j))))
+
       uniq′ : (j₁ j₂ n : ℕ) → Holder j₁ n → Holder j₂ n → j₁ ≡ j₂
       uniq′ j₁ j₂ n (inl e) (inl d) = e .0 ∙ sym (d .0)
       uniq′ j₁ j₂ n (inl e) (inr d) = absurd (d .1 (e .1))
       uniq′ j₁ j₂ n (inr e) (inl d) = absurd (e .1 (d .1))
       uniq′ j₁ j₂ n (inr e) (inr d) = sim .uniq j₁ j₂ n (e .2) (d .2)
+
       ok′ : (j : ℕ) → Dec (j ≡ mv .slot) → stateOk (v .own) (at (set (r .slots) (mv .slot) (record { state = mv .state })) j) ≡ true
       ok′ j (yes e) = rw (e, at-same) (ses-ok v k (mv .state) (part (mv .slot) (o .1)) y (mv .ses))
       ok′ j (no e) = rw (at-other j e) (sim .ok j)
@@ -158,8 +161,9 @@ state-bounded own is.Free h e = record { small = λ s z. absurd (no s z); below 
     no : (s : Session) → is.Free ≡ is.Open s → ⊥
     no s z = clash (freeState is.Free) refl (ap freeState z)
 state-bounded own (is.Open t) h e = record {
-    small = λ s z. rw (same s z) (session-bounded own t h (true-ok own t e) .0);
-    below = λ s z. rw (same s z) (session-bounded own t h (true-ok own t e) .1) }
+  small = λ s z. rw (same s z) (session-bounded own t h (true-ok own t e) .0);
+  below = λ s z. rw (same s z) (session-bounded own t h (true-ok own t e) .1);
+}
   where
     same : (s : Session) → is.Open t ≡ is.Open s → s ≡ t
     same s z = cc
@@ -226,30 +230,33 @@ module _ (v : Values) (r : Receiver) (m : List ℕ) (w : World) (sim : Sim v r m
       let y : length (r .slots) ≡ 8 = sim .eight in
       let here : holds k (at (r .slots) i) ≡ true = find-some k (r .slots) i f .0 in
       held-fit v r m (sim .whole) k me ρ
-        (record {
-          slot = i;
-          low = omega arith;
-          place = λ j n g. ((λ u. holds-one n k (at (r .slots) i) (rw u at g) here), (λ u. sim .uniq j i k (rw u at g) here));
-          found = f;
-          state = e ∙ ap is.Open (ses .0);
-          rel = ses .1;
-        })
-        (eightOthers w k) b d reads
+      (record {
+        slot = i;
+        low = omega arith;
+        place = λ j n g. ((λ u. holds-one n k (at (r .slots) i) (rw u at g) here), (λ u. sim .uniq j i k (rw u at g) here));
+        found = f;
+        state = e ∙ ap is.Open (ses .0);
+        rel = ses .1;
+      })
+      (eightOthers w k) b d reads
 
   -- no slot is the key's
   missing : keyPlace (keyAt k) (r .slots) ≡ Nothing → Fit v r m k none (bodyStep r (keyAt k) b d m) (q none)
   unfolding q
   missing f =
       shut-fit v r m (sim .whole) k me f (eightOthers w k)
-        (λ rm. room v r m w sim k (rm .slot) (lowest-some (r .slots) (rm .slot) (rm .free) .1) (lowest-some (r .slots) (rm .slot) (rm .free) .0))
-        (λ e. no-room v r m w sim k (find-none k (r .slots) f) e)
-        (λ i e.
-          let z : i < length (r .slots) = lowest-some (r .slots) i e .1 in
-          let y : length (r .slots) ≡ 8 = sim .eight in
-          (omega arith, λ j n g.
-            ((λ u. absurd (clash (holds n is.Free) (rw (u, lowest-some (r .slots) i e .0) at g) (holds-free n))),
-            (λ u. absurd (clash (holds k (at (r .slots) j)) (rw u at g) (find-none k (r .slots) f j))))))
-        b d reads
+      (λ rm. room v r m w sim k (rm .slot) (lowest-some (r .slots) (rm .slot) (rm .free) .1) (lowest-some (r .slots) (rm .slot) (rm .free) .0))
+      (λ e. no-room v r m w sim k (find-none k (r .slots) f) e)
+      (λ i e.
+      let z : i < length (r .slots) = lowest-some (r .slots) i e .1 in
+      let y : length (r .slots) ≡ 8 = sim .eight in (
+        omega arith,
+        λ j n g. (
+          (λ u. absurd (clash (holds n is.Free) (rw (u, lowest-some (r .slots) i e .0) at g) (holds-free n))),
+          (λ u. absurd (clash (holds k (at (r .slots) j)) (rw u at g) (find-none k (r .slots) f j))),
+        ),
+      ))
+      b d reads
 
   pub body-fit : Fit v r m k (w k .session) (bodyStep r (keyAt k) b d m) (rule v k (r .last) (eightOthers w k) (w k .session) b)
   unfolding q
@@ -271,7 +278,7 @@ none-lost true b e = rw (← e)
 none-lost false b e = refl
 
 -- a key whose rules' session is as it was is not lost
-kept-open : (v : Values) (r r′ : Receiver) (m m′ : List ℕ) (w w′ : World) → Sim v r m w → Sim v r′ m′ w′ → (j : ℕ) → w′ j .session ≡ w j .session → lost j r r′ ≡ false
+pub kept-open : (v : Values) (r r′ : Receiver) (m m′ : List ℕ) (w w′ : World) → Sim v r m w → Sim v r′ m′ w′ → (j : ℕ) → w′ j .session ≡ w j .session → lost j r r′ ≡ false
 unfolding lost isOpenIn any
 kept-open v r r′ m m′ w w′ sim sim′ j e =
     none-lost (any j (r .slots)) (any j (r′ .slots)) (sym (open-any v r m w sim j) ∙ ap isOpen (sym e) ∙ open-any v r′ m′ w′ sim′ j)
@@ -308,8 +315,9 @@ module _ (v : Values) (r : Receiver) (m : List ℕ) (w : World) (sim : Sim v r m
       still : (j : ℕ) → rule v k (r .last) (eightOthers w k) (w k .session) b .0 ≡ w k .session → Dec (j ≡ k) → w′ j .session ≡ w j .session
       still j e (yes z) = rw z (own-session ∙ e)
       still j e (no z) = other-session j z
+
       go : Stays r m (w k .session) o (rule v k (r .last) (eightOthers w k) (w k .session) b .0) ⊎ Moves v r m k o (rule v k (r .last) (eightOthers w k) (w k .session) b .0)
-        → Sim v (o .0 .next) (o .1) w′
+          → Sim v (o .0 .next) (o .1) w′
       go (inl st) = unchanged v r m w′ (o .0 .next) (o .1) (st .next) (st .store) (same-sim v r m w w′ sim (λ j. still j (st .ses) (ℕ-discrete j k)) same-last)
       go (inr mv) = move-sim v r m w sim k o (rule v k (r .last) (eightOthers w k) (w k .session) b .0) mv w′ own-session other-session same-last
 
@@ -318,7 +326,7 @@ module _ (v : Values) (r : Receiver) (m : List ℕ) (w : World) (sim : Sim v r m
   own-says j = rw body (go (ℕ-discrete (frameKey id d) j))
     where
       go : Dec (frameKey id d ≡ j) → cond (eqb (frameKey id d) j) (R.answer (replyOf (o .0 .answer) (o .1)) ∷ []) (strays j r o)
-        ≡ outputs v j (w j) (cond (eqb (frameKey id d) j) (mine (isAnnouncement b && eightOthers w j) b ∷ []) [])
+          ≡ outputs v j (w j) (cond (eqb (frameKey id d) j) (mine (isAnnouncement b && eightOthers w j) b ∷ []) [])
       go (yes z) =
           rw (← z, eq-eqb (frameKey id d) (frameKey id d) refl, fit .reply, sim .last (frameKey id d))
           (ap (λ (x : Out). R.answer (x .1) ∷ []) (sym (rule-told v (frameKey id d) (r .last) (eightOthers w (frameKey id d)) (w (frameKey id d) .session) b)))
@@ -336,10 +344,10 @@ module _ (v : Values) (r : Receiver) (m : List ℕ) (w : World) (sim : Sim v r m
   foreign-keeps : bodyOf (v .own) id d ≡ none → (o : Outcome) → Foreign r m o → FrameKeeps v r w id d o
   unfolding worldAfter sees seesBody after frameSeen isOwn isBody outputs strays
   foreign-keeps body o f = record {
-      next = unchanged v r m (worldAfter v w (lent (frame id d))) (o .0 .next) (o .1) (ap (λ (z : Outcome). z .0 .next) (f .same)) (ap (λ (z : Outcome). z .1) (f .same))
+    next = unchanged v r m (worldAfter v w (lent (frame id d))) (o .0 .next) (o .1) (ap (λ (z : Outcome). z .0 .next) (f .same)) (ap (λ (z : Outcome). z .1) (f .same))
         (same-sim v r m w (worldAfter v w (lent (frame id d))) sim (λ j. rw body) (λ j. rw body));
-      says = λ k. rw (body, f .same, f .quiet k, unchanged-lost k);
-    }
+    says = λ k. rw (body, f .same, f .quiet k, unchanged-lost k);
+  }
     where
       unchanged-lost : (k : ℕ) → lost k r r ≡ false
       unchanged-lost k = kept-open v r r m m w w sim sim k refl
@@ -351,8 +359,8 @@ module _ (v : Values) (r : Receiver) (m : List ℕ) (w : World) (sim : Sim v r m
       go none e f = foreign-keeps e o f
       go (some b) e t =
           subst (λ (z : Outcome). FrameKeeps v r w id d z) (sym (t .0))
-            (own-keeps v r m w sim id d b e (bodyStep r (keyAt (frameKey id d)) b d m)
-              (body-fit v r m w sim (frameKey id d) (frame-mine v id d b (own-small (v .own) (v .limit) (sim .good)) e) b d (t .1)))
+          (own-keeps v r m w sim id d b e (bodyStep r (keyAt (frameKey id d)) b d m)
+          (body-fit v r m w sim (frameKey id d) (frame-mine v id d b (own-small (v .own) (v .limit) (sim .good)) e) b d (t .1)))
 
 -- ---- a reading
 
@@ -367,11 +375,11 @@ unfolding endingsOf
 endings-one limit t k [] u i h = absurd (clash (holds k is.Free) h (holds-free k))
 endings-one limit t k (x ∷ l) u zero h =
     ap (λ (b : List Reply). endingOf k (endOf limit t (x .state)) ++ b)
-      (endings-none limit t k l (λ i. or-false (holds k (at l i)) (λ g. let z : 0 ≡ suc i = u 0 (suc i) k h g in omega arith)))
+    (endings-none limit t k l (λ i. or-false (holds k (at l i)) (λ g. let z : 0 ≡ suc i = u 0 (suc i) k h g in omega arith)))
     ∙ append-nil (endingOf k (endOf limit t (x .state)))
 endings-one limit t k (x ∷ l) u (suc i) h =
     ap (λ (a : List Reply). a ++ endingsOf k (map (slotEnd limit t) l))
-      (ends-other limit t k (x .state) (or-false (holds k (x .state)) (λ g. let z : 0 ≡ suc i = u 0 (suc i) k g h in omega arith)))
+    (ends-other limit t k (x .state) (or-false (holds k (x .state)) (λ g. let z : 0 ≡ suc i = u 0 (suc i) k g h in omega arith)))
     ∙ endings-one limit t k l (λ a b n p q. let z : suc a ≡ suc b = u (suc a) (suc b) n p q in omega arith) i h
 
 module _ (v : Values) (r : Receiver) (m : List ℕ) (w : World) (sim : Sim v r m w) (t : ℕ) where
@@ -392,22 +400,23 @@ module _ (v : Values) (r : Receiver) (m : List ℕ) (w : World) (sim : Sim v r m
   pub reading-next : Sim v (readingKept r t .next) m (worldAfter v w (lent (clock t)))
   unfolding worldAfter sees after nextState judgedAt
   reading-next = record {
-      good = sim .good;
-      own = sim .own;
-      limit = sim .limit;
-      eight = length-map (r .slots) (expired (r .limit) t) ∙ sim .eight;
-      whole = sim .whole;
-      last = λ k. refl;
-      held = λ i k h. held′ i k (was i k h);
-      shut = λ k h. shut′ k h (keyPlace (keyAt k) (r .slots)) refl;
-      uniq = λ i j k g h. sim .uniq i j k (was i k g) (was j k h);
-      ok = λ i. rw (at-map i) (expired-ok (r .limit) (at (r .slots) i) (sim .ok i));
-    }
+    good = sim .good;
+    own = sim .own;
+    limit = sim .limit;
+    eight = length-map (r .slots) (expired (r .limit) t) ∙ sim .eight;
+    whole = sim .whole;
+    last = λ k. refl;
+    held = λ i k h. held′ i k (was i k h);
+    shut = λ k h. shut′ k h (keyPlace (keyAt k) (r .slots)) refl;
+    uniq = λ i j k g h. sim .uniq i j k (was i k g) (was j k h);
+    ok = λ i. rw (at-map i) (expired-ok (r .limit) (at (r .slots) i) (sim .ok i));
+  }
     where
       held′ : (i k : ℕ) → holds k (at (r .slots) i) ≡ true → Ses v k (at (map (expired (r .limit) t) (r .slots)) i) (part i m) (judgedAt v t (w k .session))
       held′ i k h = rw (at-map i, sim .limit) (expire-ses v t k (at (r .slots) i) (part i m) (w k .session) (sim .held i k h))
+
       shut′ : (k : ℕ) → ((i : ℕ) → holds k (at (map (expired (r .limit) t) (r .slots)) i) ≡ false) → (f : Found) → keyPlace (keyAt k) (r .slots) ≡ f
-        → judgedAt v t (w k .session) ≡ none
+          → judgedAt v t (w k .session) ≡ none
       shut′ k h Nothing e = rw (sim .shut k (find-none k (r .slots) e))
       shut′ k h (At i) e =
           ses-shut v k (at (map (expired (r .limit) t) (r .slots)) i) (part i m) (judgedAt v t (w k .session)) (held′ i k (find-some k (r .slots) i e .0)) (h i) .1

@@ -76,16 +76,19 @@ head-alone x l u k e = any-none k l (λ i. or-false (holds k (at l i)) (λ t. le
 
 count-open : (n k : ℕ) (s : Session) (l : Slots) → keyNumber (s .key) < n → any (keyNumber (s .key)) l ≡ false
     → count (λ j. (eqb (keyNumber (s .key)) j || any j l) && not (eqb j k)) n
-      ≡ cond (eqb (keyNumber (s .key)) k) (count (λ j. any j l && not (eqb j k)) n) (suc (count (λ j. any j l && not (eqb j k)) n))
+    ≡ cond (eqb (keyNumber (s .key)) k) (count (λ j. any j l && not (eqb j k)) n) (suc (count (λ j. any j l && not (eqb j k)) n))
 count-open n k s l b a = go (ℕ-discrete (keyNumber (s .key)) k)
   where
     p : ℕ → Bool
     p j = (eqb (keyNumber (s .key)) j || any j l) && not (eqb j k)
+
     q : ℕ → Bool
     q j = any j l && not (eqb j k)
+
     same : keyNumber (s .key) ≡ k → (j : ℕ) → Dec (j ≡ k) → p j ≡ q j
     same e j (yes z) = rw (eq-eqb j k z) (and-false (eqb (keyNumber (s .key)) j || any j l) ∙ sym (and-false (any j l)))
     same e j (no z) = rw (ne-eqb (keyNumber (s .key)) j (λ y. z (sym y ∙ e)))
+
     go : Dec (keyNumber (s .key) ≡ k) → count p n ≡ cond (eqb (keyNumber (s .key)) k) (count q n) (suc (count q n))
     go (yes e) = rw (eq-eqb (keyNumber (s .key)) k e) (count-same p q n (λ j _. same e j (ℕ-discrete j k)))
     go (no e) =
@@ -95,7 +98,7 @@ count-open n k s l b a = go (ℕ-discrete (keyNumber (s .key)) k)
 -- one slot before the rest
 count-head : (n k : ℕ) (x : SlotState) (l : Slots) → Bounded n x → ((j : ℕ) → holds j x ≡ true → any j l ≡ false)
     → count (λ j. (holds j x || any j l) && not (eqb j k)) n
-      ≡ cond (freeState x || holds k x) (count (λ j. any j l && not (eqb j k)) n) (suc (count (λ j. any j l && not (eqb j k)) n))
+    ≡ cond (freeState x || holds k x) (count (λ j. any j l && not (eqb j k)) n) (suc (count (λ j. any j l && not (eqb j k)) n))
 unfolding holds
 count-head n k Free l b a = refl
 count-head n k (Open s) l b a =

@@ -69,6 +69,7 @@ taken-same total n p i = same-test _ _ there back
         go : (eqb i 0 ≡ true) ⊎ (isTaken i (cut total n p) ≡ true) → (eqb i 0 || ltb i (n + 1)) ≡ true
         go (inl f) = or-1 _ _ f
         go (inr f) = let b : i ≤ n = taken-low total n p i f .1 in or-2 (eqb i 0) _ (lt-ltb i (n + 1) (omega arith))
+
     back : (eqb i 0 || ltb i (n + 1)) ≡ true → (eqb i 0 || isTaken i (cut total n p)) ≡ true
     back e = go (ℕ-discrete i 0) (or-either (eqb i 0) (ltb i (n + 1)) e)
       where
@@ -111,8 +112,8 @@ unfolding cut
 cut-before total zero p x i l u h = refl
 cut-before total (suc n) p x i l u h =
     ap₂ (λ (b : List ℕ) (t : List Piece). record { number = suc n; bytes = b } ∷ t)
-      (window-other p (60 * i) x (dueOf total (suc i)) u h (60 * (suc n - 1)) (dueOf total (suc n)) (inl (apart (segment-apart total (suc n) (suc i) (omega arith) (omega arith)))))
-      (cut-before total n p x i (omega arith) u h)
+    (window-other p (60 * i) x (dueOf total (suc i)) u h (60 * (suc n - 1)) (dueOf total (suc n)) (inl (apart (segment-apart total (suc n) (suc i) (omega arith) (omega arith)))))
+    (cut-before total n p x i (omega arith) u h)
   where
     apart : 60 * (suc n - 1) + dueOf total (suc n) ≤ 60 * (suc i - 1) → 60 * (suc n - 1) + dueOf total (suc n) ≤ 60 * i
     apart z = let g : suc i - 1 ≡ i = omega arith in rw g at z
@@ -123,5 +124,5 @@ unfolding cut
 cut-next total n p x u h =
     let g : suc n - 1 ≡ n = omega arith in
     ap₂ (λ (b : List ℕ) (t : List Piece). record { number = suc n; bytes = b } ∷ t)
-      (rw g (window-same p (60 * n) x (dueOf total (suc n)) u h))
-      (cut-before total n p x n (omega arith) u h)
+    (rw g (window-same p (60 * n) x (dueOf total (suc n)) u h))
+    (cut-before total n p x n (omega arith) u h)

@@ -96,8 +96,9 @@ module _ (r : Receiver) (id : ℕ) (d m : List ℕ) where
       other true b = control-agrees r d m (keyOf ρ d)
       other false true = data-agrees r d m (keyOf ρ d)
       other false false = record { does = foreign r m NotTaken }
+
       go : (t : Bool) → eqb pf 37 ≡ t
-        → Agrees r d m (keyOf ρ d) (onVerdict (cond t (verdict.MultiPg ρ) (cond (eqb pf 77) (verdict.Control ρ) (cond (eqb pf 78) (verdict.Data ρ) (verdict.Refused NotTaken)))) r d m)
+          → Agrees r d m (keyOf ρ d) (onVerdict (cond t (verdict.MultiPg ρ) (cond (eqb pf 77) (verdict.Control ρ) (cond (eqb pf 78) (verdict.Data ρ) (verdict.Refused NotTaken)))) r d m)
           (cond (eqb pf 77) (controlBody d) (cond (eqb pf 78) (dataBody d) none))
       go true e =
           let z : pf ≡ 37 = eqb-true pf 37 e in
@@ -116,9 +117,9 @@ sa-same : (sa : ℕ) → sa < 256 → ltb sa 254 ≡ (not (eqb sa 254) && not (e
 sa-same sa h = same-test (ltb sa 254) (not (eqb sa 254) && not (eqb sa 255))
     (λ e. let z : sa < 254 = ltb-true sa 254 e in both (not (eqb sa 254)) (not (eqb sa 255)) (ap not (ne-eqb sa 254 (λ y. omega arith))) (ap not (ne-eqb sa 255 (λ y. omega arith))))
     (λ e.
-      let a : sa ≡ 254 → ⊥ = eqb-false sa 254 (not-true (eqb sa 254) (and-left (not (eqb sa 254)) (not (eqb sa 255)) e)) in
-      let b : sa ≡ 255 → ⊥ = eqb-false sa 255 (not-true (eqb sa 255) (and-right (not (eqb sa 254)) (not (eqb sa 255)) e)) in
-      lt-ltb sa 254 (omega arith))
+    let a : sa ≡ 254 → ⊥ = eqb-false sa 254 (not-true (eqb sa 254) (and-left (not (eqb sa 254)) (not (eqb sa 255)) e)) in
+    let b : sa ≡ 255 → ⊥ = eqb-false sa 255 (not-true (eqb sa 255) (and-right (not (eqb sa 254)) (not (eqb sa 255)) e)) in
+    lt-ltb sa 254 (omega arith))
 
 range-same : (id : ℕ) → ltb id 536870912 ≡ not (leb 536870912 id)
 range-same id = same-test (ltb id 536870912) (not (leb 536870912 id))
@@ -130,8 +131,8 @@ unfolding R.taken
 taken-same own id d =
     rw (range-same id, sa-same (identifierOf id .sa .0) (omega arith))
     (ap (λ (t : Bool). not (leb 536870912 id) && (isLength (length d) && t))
-      (chain-6 (eqb (identifierOf id .extended_data_page) 0) (eqb (identifierOf id .data_page) 0) (eqb (identifierOf id .ps) (own .0) || eqb (identifierOf id .ps) 255)
-        (not (eqb (identifierOf id .sa .0) 254)) (not (eqb (identifierOf id .sa .0) 255)) (not (eqb (identifierOf id .sa .0) (own .0)))))
+    (chain-6 (eqb (identifierOf id .extended_data_page) 0) (eqb (identifierOf id .data_page) 0) (eqb (identifierOf id .ps) (own .0) || eqb (identifierOf id .ps) 255)
+    (not (eqb (identifierOf id .sa .0) 254)) (not (eqb (identifierOf id .sa .0) 255)) (not (eqb (identifierOf id .sa .0) (own .0)))))
 
 -- the frame's key, as a number
 pub key-read : (id : ℕ) (d : List ℕ) → keyAt (frameKey id d) ≡ keyOf (routeOf (identifierOf id)) d
@@ -140,7 +141,7 @@ key-read id d = key-of (keyOf (routeOf (identifierOf id)) d) (record { da = omeg
 
 judged-agrees : (r : Receiver) (id : ℕ) (d m : List ℕ) (κ : Key) (a b c : Bool) (w : Verdict) (x : Option Body) → Agrees r d m κ (onVerdict w r d m) x
     → Agrees r d m κ (onVerdict (cond a (verdict.Refused IdentifierRange) (cond (not b) (verdict.Refused FrameLength) (cond (not c) (verdict.Refused NotTaken) w))) r d m)
-      (cond (not (not a && (b && c))) none x)
+    (cond (not (not a && (b && c))) none x)
 judged-agrees r id d m κ true b c w x h = record { does = foreign r m IdentifierRange }
 judged-agrees r id d m κ false false c w x h = record { does = foreign r m FrameLength }
 judged-agrees r id d m κ false true false w x h = record { does = foreign r m NotTaken }
@@ -152,7 +153,7 @@ unfolding judged bodyOf
 frame-agrees r id d m =
     rw (key-read id d, taken-same (r .own) id d)
     (judged-agrees r id d m (keyOf (routeOf (identifierOf id)) d) (leb 536870912 id) (isLength (length d)) (routeTaken (r .own) (identifierOf id))
-      (byFormat (identifierOf id .pf) (routeOf (identifierOf id))) _ (format-agrees r id d m (identifierOf id .pf) (routeOf (identifierOf id))))
+    (byFormat (identifierOf id .pf) (routeOf (identifierOf id))) _ (format-agrees r id d m (identifierOf id .pf) (routeOf (identifierOf id))))
 
 -- an own frame's key has addresses that are taken here
 untaken : (t : Bool) (x : Option Body) (b : Body) → cond (not t) none x ≡ some b → t ≡ true

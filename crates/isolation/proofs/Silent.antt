@@ -62,7 +62,7 @@ end-same : (k : ℕ) (ρ : Open) → endReply (C.endingOf (recordOf k ρ) Silenc
 unfolding endReply ending
 end-same k ρ =
     ap (λ (w : Option R.Wire). record { number = 22; says = R.ended (keyAt k) (ρ .told .kind) (ρ .told .pgn); sends = w })
-      (wire-cond (S.isRts (ρ .told .kind)) (R.isRts (ρ .told .kind)) (abortFor (keyAt k) Silence (ρ .told .pgn)) (kind-same (ρ .told .kind)))
+    (wire-cond (S.isRts (ρ .told .kind)) (R.isRts (ρ .told .kind)) (abortFor (keyAt k) Silence (ρ .told .pgn)) (kind-same (ρ .told .kind)))
 
 pub ends-own : (v : Values) (t k : ℕ) (x : SlotState) (p : List ℕ) (y : Option Open) → Ses v k x p y → endingOf k (endOf (v .limit) t x) ≡ endsAt v k t y
 unfolding endingOf endsAt isSilent

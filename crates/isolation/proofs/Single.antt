@@ -118,7 +118,7 @@ module _ (v : Values) (k : ℕ) (me : Mine v k) where
   key-fact : (s : Session) → s .key ≡ keyAt k → S.misdirected (keyAt k .da) (s .kind) ≡ false → keyOk (v .own) s ≡ true
   key-fact s e f =
       rw e (all-of (leb (keyAt k .sa .0) 253 ∷ not (eqb (keyAt k .sa .0) (v .own .0)) ∷ eqb (keyAt k .da .0) (cond (S.isRts (s .kind)) (v .own .0) 255) ∷ leb (keyAt k .session .0) 15 ∷ [])
-        (le-leb (keyAt k .sa .0) 253 (me .sa), (ap not (me .foreign), (da-fact (s .kind) f, (le-leb (keyAt k .session .0) 15 (omega arith), tt)))))
+      (le-leb (keyAt k .sa .0) 253 (me .sa), (ap not (me .foreign), (da-fact (s .kind) f, (le-leb (keyAt k .session .0) 15 (omega arith), tt)))))
 
 module _ (v : Values) (r : Receiver) (m : List ℕ) (k : ℕ) where
   -- a refusal that changes nothing
@@ -130,13 +130,13 @@ module _ (v : Values) (r : Receiver) (m : List ℕ) (k : ℕ) where
   unfolding replyOf saysOf touches reject sent
   reject-fit x a n =
       fit-reply (S.isRts (a .kind)) (R.isRts (a .kind)) (kind-same (a .kind))
-        (λ _. record { reply = refl; only = λ j ne. refl; change = inl (record { next = refl; store = refl; ses = refl }) })
-        (λ _. refuse-fit x n)
+      (λ _. record { reply = refl; only = λ j ne. refl; change = inl (record { next = refl; store = refl; ses = refl }) })
+      (λ _. refuse-fit x n)
 
   -- after the form is judged good
   announce-fit : (me : Mine v k) (eight : Bool) (x : Option Open) (a : Announcement)
       → (Numbers a → a .total .0 ≤ 4096 → a .assurance ≡ 0 → pgnOk (a .pgn) ≡ true → S.misdirected (keyAt k .da) (a .kind) ≡ false
-        → Fit v r m k x (takeSlot r (keyAt k) a, m) (cond (isOpen x) (x, reject k a 14) (cond eight (x, reject k a 15) (opens k (r .last) a))))
+      → Fit v r m k x (takeSlot r (keyAt k) a, m) (cond (isOpen x) (x, reject k a 14) (cond eight (x, reject k a 15) (opens k (r .last) a))))
       → Fit v r m k x (announceStep r (keyAt k) a, m) (announced (v .own) k (r .last) eight x a)
   unfolding announceStep announced formOf
   announce-fit me eight x a then =
@@ -154,24 +154,26 @@ module _ (v : Values) (r : Receiver) (m : List ℕ) (whole : length m ≡ 32768)
       → Fit v r m k none (openedIn r (room .slot) (keyAt k) a, m) (opens k (r .last) a)
   unfolding opens replyOf saysOf touches cts sent cut
   opens-fit room a num long sure pgn aimed = record {
-      reply = reply-cond m (answer.Grant (firstCts (keyAt k) a)) (answer.Opened (keyAt k)) (S.isRts (a .kind)) (R.isRts (a .kind)) (cts k 1 (grant (a .max) (a .segments .0)) (a .pgn)) (plain (R.opened (keyAt k)))
+    reply = reply-cond m (answer.Grant (firstCts (keyAt k) a)) (answer.Opened (keyAt k)) (S.isRts (a .kind)) (R.isRts (a .kind)) (cts k 1 (grant (a .max) (a .segments .0)) (a .pgn)) (plain (R.opened (keyAt k)))
         (kind-same (a .kind)) (rw (grant-same (a .max) (a .segments .0))) refl;
-      only = λ j ne. quiet-cond j (S.isRts (a .kind)) (answer.Grant (firstCts (keyAt k) a)) (answer.Opened (keyAt k)) refl refl;
-      change = inr (record {
-        slot = room .slot;
-        low = room .low;
-        place = room .place;
-        state = is.Open (sessionOf (keyAt k) a (r .last));
-        next = refl;
-        ses = (rw (kind-same (a .kind), grant-same (a .max) (a .segments .0)), record { pieces = refl; plain = sure; fine = fine });
-        store = within-self (room .slot) m whole;
-      });
-    }
+    only = λ j ne. quiet-cond j (S.isRts (a .kind)) (answer.Grant (firstCts (keyAt k) a)) (answer.Opened (keyAt k)) refl refl;
+    change = inr (record {
+      slot = room .slot;
+      low = room .low;
+      place = room .place;
+      state = is.Open (sessionOf (keyAt k) a (r .last));
+      next = refl;
+      ses = (rw (kind-same (a .kind), grant-same (a .max) (a .segments .0)), record { pieces = refl; plain = sure; fine = fine });
+      store = within-self (room .slot) m whole;
+    });
+  }
     where
       ρ : Open
       ρ = record { told = a; mark = r .last; granted = cond (R.isRts (a .kind)) (grant (a .max) (a .segments .0)) 0; pieces = [] }
+
       few : (t c : ℕ) → 1 ≤ t → c ≡ (t + 59) / 60 → 1 ≤ c
       few t c l e = omega arith
+
       fine : Ok (v .own) (recordOf k ρ)
       fine = record {
         some = num .some;
@@ -223,10 +225,17 @@ module _ (v : Values) (r : Receiver) (m : List ℕ) (whole : length m ≡ 32768)
   unfolding replyOf saysOf touches ending
   ends-fit n = record {
     reply = ap (λ (w : Option R.Wire). record { number = numberOf n; says = R.ended (keyAt k) (ρ .told .kind) (ρ .told .pgn); sends = w })
-      (wire-cond (S.isRts (ρ .told .kind)) (R.isRts (ρ .told .kind)) (abortFor (keyAt k) n (ρ .told .pgn)) (kind-same (ρ .told .kind)));
+        (wire-cond (S.isRts (ρ .told .kind)) (R.isRts (ρ .told .kind)) (abortFor (keyAt k) n (ρ .told .pgn)) (kind-same (ρ .told .kind)));
     only = λ j ne. other-key k j ne;
     change = inr (record {
-      slot = h .slot; low = h .low; place = h .place; state = is.Free; next = refl; ses = tt; store = within-self (h .slot) m whole })
+      slot = h .slot;
+      low = h .low;
+      place = h .place;
+      state = is.Free;
+      next = refl;
+      ses = tt;
+      store = within-self (h .slot) m whole;
+    });
   }
 
   count-fact : ρ .told .segments .0 ≡ (ρ .told .total .0 + 59) / 60
@@ -247,7 +256,7 @@ module _ (v : Values) (r : Receiver) (m : List ℕ) (whole : length m ≡ 32768)
       let c : Bool = eqb (st .segments .0) (ρ .told .segments .0) in
       let d : Bool = eqb (st .assurance) 0 in
       eqb-true (length (ρ .pieces) + 1) (ρ .told .segments .0 + 1)
-        (and-left a b (and-left (a && b) c (and-left (a && b && c) d (and-left (a && b && c && d) (eqb (st .pgn) (ρ .told .pgn)) e))))
+      (and-left a b (and-left (a && b) c (and-left (a && b && c) d (and-left (a && b && c && d) (eqb (st .pgn) (ρ .told .pgn)) e))))
 
   bytes-fact : length (ρ .pieces) ≡ ρ .told .segments .0 → messageBytes (messageOf (h .slot) (recordOf k ρ)) m ≡ joined (ρ .told .segments .0) (ρ .pieces)
   bytes-fact e =
@@ -258,14 +267,21 @@ module _ (v : Values) (r : Receiver) (m : List ℕ) (whole : length m ≡ 32768)
 
   handed-fit : length (ρ .pieces) ≡ ρ .told .segments .0
       → Fit v r m k (some ρ) (answered (withSlot r (h .slot) is.Free) (answer.HandedOver (messageOf (h .slot) (recordOf k ρ))), m)
-        (none, handOver k (ρ .told) (joined (ρ .told .segments .0) (ρ .pieces)))
+      (none, handOver k (ρ .told) (joined (ρ .told .segments .0) (ρ .pieces)))
   unfolding replyOf saysOf touches handOver
   handed-fit e = record {
     reply = ap₂ (λ (b : List ℕ) (w : Option R.Wire). record { number = 0; says = handed (keyAt k) (ρ .told .kind) (ρ .told .total .0) (ρ .told .segments .0) (ρ .told .pgn) b; sends = w })
-      (bytes-fact e) (wire-cond (S.isRts (ρ .told .kind)) (R.isRts (ρ .told .kind)) (eomaFor (messageOf (h .slot) (recordOf k ρ))) (kind-same (ρ .told .kind)));
+        (bytes-fact e) (wire-cond (S.isRts (ρ .told .kind)) (R.isRts (ρ .told .kind)) (eomaFor (messageOf (h .slot) (recordOf k ρ))) (kind-same (ρ .told .kind)));
     only = λ j ne. other-key k j ne;
     change = inr (record {
-      slot = h .slot; low = h .low; place = h .place; state = is.Free; next = refl; ses = tt; store = within-self (h .slot) m whole })
+      slot = h .slot;
+      low = h .low;
+      place = h .place;
+      state = is.Free;
+      next = refl;
+      ses = tt;
+      store = within-self (h .slot) m whole;
+    });
   }
 
   held-status : (st : Status) → Fit v r m k (some ρ) (statusStep r (keyAt k) st, m) (R.statusOpen k ρ st)
@@ -273,8 +289,8 @@ module _ (v : Values) (r : Receiver) (m : List ℕ) (whole : length m ≡ 32768)
   held-status st =
       rw (h .found, h .state)
       (fit-step (statusMatches (recordOf k ρ) st) (asAnnounced ρ st) (status-same st)
-        (λ all. let e : length (ρ .pieces) + 1 ≡ ρ .told .segments .0 + 1 = all-in st all in handed-fit (omega arith))
-        (λ _. ends-fit StatusMismatch))
+      (λ all. let e : length (ρ .pieces) + 1 ≡ ρ .told .segments .0 + 1 = all-in st all in handed-fit (omega arith))
+      (λ _. ends-fit StatusMismatch))
 
   -- ---- an Abort
 
@@ -283,13 +299,20 @@ module _ (v : Values) (r : Receiver) (m : List ℕ) (whole : length m ≡ 32768)
   held-abort pgn =
       rw (h .found, h .state)
       (fit-step (eqb pgn (ρ .told .pgn)) (eqb pgn (ρ .told .pgn)) refl
-        (λ _. record {
-          reply = refl;
-          only = λ j ne. other-key k j ne;
-          change = inr (record {
-            slot = h .slot; low = h .low; place = h .place; state = is.Free; next = refl; ses = tt; store = within-self (h .slot) m whole })
-        })
-        (λ _. refuse-fit v r m k (some ρ) KeyNotOpen))
+      (λ _. record {
+        reply = refl;
+        only = λ j ne. other-key k j ne;
+        change = inr (record {
+          slot = h .slot;
+          low = h .low;
+          place = h .place;
+          state = is.Free;
+          next = refl;
+          ses = tt;
+          store = within-self (h .slot) m whole;
+        });
+      })
+      (λ _. refuse-fit v r m k (some ρ) KeyNotOpen))
 
   -- ---- a segment
 
@@ -300,32 +323,36 @@ module _ (v : Values) (r : Receiver) (m : List ℕ) (whole : length m ≡ 32768)
   -- the next segment, with the data due
   adds-next : (d : List ℕ) → suc (length (ρ .pieces)) ≤ ρ .told .segments .0 → dueOf (ρ .told .total .0) (suc (length (ρ .pieces))) ≤ length (dataAt d)
       → Fit v r m k (some ρ) (C.taken r (h .slot) (recordOf k ρ) (suc (length (ρ .pieces))), stored (h .slot) (recordOf k ρ) (suc (length (ρ .pieces))) d m)
-        (adds k (r .last) ρ (suc (length (ρ .pieces))) (dataAt d))
+      (adds k (r .last) ρ (suc (length (ρ .pieces))) (dataAt d))
   unfolding adds replyOf saysOf touches cts sent
   adds-next d small enough = record {
-      reply = reply-cond _ (answer.Grant (nextCts (recordOf k ρ) n)) (answer.Taken (record { key = keyAt k; number = record { 0 = n } })) (ctsDue (recordOf k ρ) n) (spent ρ n)
+    reply = reply-cond _ (answer.Grant (nextCts (recordOf k ρ) n)) (answer.Taken (record { key = keyAt k; number = record { 0 = n } })) (ctsDue (recordOf k ρ) n) (spent ρ n)
         (cts k (n + 1) (grant (ρ .told .max) (ρ .told .segments .0 - n)) (ρ .told .pgn)) (plain (R.took (keyAt k) n))
         (spent-same n) (rw (grant-same (ρ .told .max) (ρ .told .segments .0 - n))) refl;
-      only = λ j ne. quiet-cond j (ctsDue (recordOf k ρ) n) (answer.Grant (nextCts (recordOf k ρ) n)) (answer.Taken (record { key = keyAt k; number = record { 0 = n } })) refl refl;
-      change = inr (record {
-        slot = h .slot;
-        low = h .low;
-        place = h .place;
-        state = is.Open (advancedBy (recordOf k ρ) n (r .last));
-        next = refl;
-        ses = (rw (spent-same n, grant-same (ρ .told .max) (ρ .told .segments .0 - n)), record { pieces = pieces; plain = h .rel .plain; fine = fine });
-        store = within-paste m whole (h .slot) (h .low) (60 * (n - 1)) (dataAt d) (dueOf total n) fits enough;
-      });
-    }
+    only = λ j ne. quiet-cond j (ctsDue (recordOf k ρ) n) (answer.Grant (nextCts (recordOf k ρ) n)) (answer.Taken (record { key = keyAt k; number = record { 0 = n } })) refl refl;
+    change = inr (record {
+      slot = h .slot;
+      low = h .low;
+      place = h .place;
+      state = is.Open (advancedBy (recordOf k ρ) n (r .last));
+      next = refl;
+      ses = (rw (spent-same n, grant-same (ρ .told .max) (ρ .told .segments .0 - n)), record { pieces = pieces; plain = h .rel .plain; fine = fine });
+      store = within-paste m whole (h .slot) (h .low) (60 * (n - 1)) (dataAt d) (dueOf total n) fits enough;
+    });
+  }
     where
       c : ℕ
       c = length (ρ .pieces)
+
       n : ℕ
       n = suc (length (ρ .pieces))
+
       total : ℕ
       total = ρ .told .total .0
+
       p : List ℕ
       p = part (h .slot) m
+
       ρ′ : Open
       ρ′ = record {
         told = ρ .told;
@@ -333,11 +360,13 @@ module _ (v : Values) (r : Receiver) (m : List ℕ) (whole : length m ≡ 32768)
         granted = cond (spent ρ n) (n + grant (ρ .told .max) (ρ .told .segments .0 - n)) (ρ .granted);
         pieces = record { number = n; bytes = take (due total n) (dataAt d) } ∷ ρ .pieces;
       }
+
       fits : 60 * (suc (length (ρ .pieces)) - 1) + dueOf (ρ .told .total .0) (suc (length (ρ .pieces))) ≤ 4096
       fits =
           let z = segment-inside (ρ .told .total .0) (ρ .told .segments .0) (suc (length (ρ .pieces))) count-fact (omega arith) small in
           let y : ρ .told .total .0 ≤ 4096 = h .rel .fine .most in
           omega arith
+
       pieces : record { number = n; bytes = take (due total n) (dataAt d) } ∷ ρ .pieces ≡ cut total (suc (length (ρ .pieces))) (part (h .slot) (stored (h .slot) (recordOf k ρ) n d m))
       pieces =
           let g : suc (length (ρ .pieces)) - 1 ≡ length (ρ .pieces) = omega arith in
@@ -345,7 +374,8 @@ module _ (v : Values) (r : Receiver) (m : List ℕ) (whole : length m ≡ 32768)
           let f = fits in
           rw (due-same total n (omega arith), part-paste m whole (h .slot) (h .low) (60 * (n - 1)) (dataAt d) (dueOf total n) fits enough, g)
           (sym (cut-next total (length (ρ .pieces)) (part (h .slot) m) (dataAt d) (omega arith) enough
-            ∙ ap (λ (t : List Piece). record { number = n; bytes = take (dueOf total n) (dataAt d) } ∷ t) (sym (h .rel .pieces))))
+          ∙ ap (λ (t : List Piece). record { number = n; bytes = take (dueOf total n) (dataAt d) } ∷ t) (sym (h .rel .pieces))))
+
       fine : Ok (v .own) (recordOf k ρ′)
       fine = record {
         some = h .rel .fine .some;
@@ -357,7 +387,7 @@ module _ (v : Values) (r : Receiver) (m : List ℕ) (whole : length m ≡ 32768)
         low = omega arith;
         high = omega arith;
         grants = rw (spent-same n, grant-same (ρ .told .max) (ρ .told .segments .0 - n))
-          (grants-next (S.isRts (ρ .told .kind)) n (ρ .granted) (ρ .told .segments .0) (ρ .told .max) (h .rel .fine .max) small
+            (grants-next (S.isRts (ρ .told .kind)) n (ρ .granted) (ρ .told .segments .0) (ρ .told .max) (h .rel .fine .max) small
             (subst (λ (z : ℕ). grantsOk (S.isRts (ρ .told .kind)) z (ρ .granted) (ρ .told .segments .0) ≡ true) (add-one (length (ρ .pieces))) (h .rel .fine .grants)));
       }
 
@@ -376,13 +406,15 @@ module _ (v : Values) (r : Receiver) (m : List ℕ) (whole : length m ≡ 32768)
       let l₂ : n ≤ next = ltb-false next n (or-left (ltb next n) (ltb (ρ .told .segments .0) n) b) in
       let l₃ : n ≤ ρ .told .segments .0 = ltb-false (ρ .told .segments .0) n (or-right (ltb next n) (ltb (ρ .told .segments .0) n) b) in
       fit-judged (judged.Refused SegmentCut) judged.Takes (h .slot) (recordOf k ρ) n d (ltb (sg .room) (dueOf (ρ .told .total .0) n)) (ltb (length (dataAt d)) (due (ρ .told .total .0) n))
-        (rw (due-same (ρ .told .total .0) n (omega arith), room)) (λ _. refuse-fit v r m k (some ρ) SegmentCut) (λ c.
+      (rw (due-same (ρ .told .total .0) n (omega arith), room)) (λ _. refuse-fit v r m k (some ρ) SegmentCut) (λ c.
       adds-fit n d (omega arith) l₃ (rw room at (ltb-false (sg .room) (dueOf (ρ .told .total .0) n) c)))))
     where
       n : ℕ
       n = sg .number .0
+
       next : ℕ
       next = length (ρ .pieces) + 1
+
       before : (eqb (sg .number .0) 0 || isTaken (sg .number .0) (ρ .pieces)) ≡ (eqb (sg .number .0) 0 || ltb (sg .number .0) (length (ρ .pieces) + 1))
       before =
           ap (λ (xs : List Piece). eqb (sg .number .0) 0 || isTaken (sg .number .0) xs) (h .rel .pieces)
@@ -409,7 +441,7 @@ unfolding rule segmentStep
 held-fit v r m whole k me ρ h eight (announce a) d e = held-announce v r m whole k me ρ h eight a
 held-fit v r m whole k me ρ h eight (segment format n x) d e =
     rw e (fit-cond (not (eqb format 0)) (not (eqb format 0)) refl (λ _. refuse-fit v r m k (some ρ) FormatIndicator)
-      (λ _. rw (h .found, h .state) (segment-fit v r m whole k me ρ h (record { format = format; number = record { 0 = n }; room = length (dataAt d) }) d refl)))
+    (λ _. rw (h .found, h .state) (segment-fit v r m whole k me ρ h (record { format = format; number = record { 0 = n }; room = length (dataAt d) }) d refl)))
 held-fit v r m whole k me ρ h eight (status st) d e = held-status v r m whole k me ρ h st
 held-fit v r m whole k me ρ h eight (abort pgn) d e = held-abort v r m whole k me ρ h pgn
 

@@ -59,9 +59,9 @@ same-keys κ μ e =
     let t : Bool = eqb (κ .sa .0) (μ .sa .0) && eqb (κ .da .0) (μ .da .0) in
     let a : (eqb (κ .sa .0) (μ .sa .0) && eqb (κ .da .0) (μ .da .0)) ≡ true = and-left t (eqb (κ .session .0) (μ .session .0)) e in
     same-parts κ μ
-      (eqb-true (κ .sa .0) (μ .sa .0) (and-left (eqb (κ .sa .0) (μ .sa .0)) (eqb (κ .da .0) (μ .da .0)) a))
-      (eqb-true (κ .da .0) (μ .da .0) (and-right (eqb (κ .sa .0) (μ .sa .0)) (eqb (κ .da .0) (μ .da .0)) a))
-      (eqb-true (κ .session .0) (μ .session .0) (and-right t (eqb (κ .session .0) (μ .session .0)) e))
+    (eqb-true (κ .sa .0) (μ .sa .0) (and-left (eqb (κ .sa .0) (μ .sa .0)) (eqb (κ .da .0) (μ .da .0)) a))
+    (eqb-true (κ .da .0) (μ .da .0) (and-right (eqb (κ .sa .0) (μ .sa .0)) (eqb (κ .da .0) (μ .da .0)) a))
+    (eqb-true (κ .session .0) (μ .session .0) (and-right t (eqb (κ .session .0) (μ .session .0)) e))
 
 pub keys-same : (κ μ : Key) → κ ≡ μ → sameKey κ μ ≡ true
 keys-same κ μ e = rw e (self μ)
@@ -69,15 +69,15 @@ keys-same κ μ e = rw e (self μ)
     self : (μ : Key) → sameKey μ μ ≡ true
     self μ =
         both (eqb (μ .sa .0) (μ .sa .0) && eqb (μ .da .0) (μ .da .0)) (eqb (μ .session .0) (μ .session .0))
-          (both (eqb (μ .sa .0) (μ .sa .0)) (eqb (μ .da .0) (μ .da .0)) (eq-eqb (μ .sa .0) (μ .sa .0) refl) (eq-eqb (μ .da .0) (μ .da .0) refl))
-          (eq-eqb (μ .session .0) (μ .session .0) refl)
+        (both (eqb (μ .sa .0) (μ .sa .0)) (eqb (μ .da .0) (μ .da .0)) (eq-eqb (μ .sa .0) (μ .sa .0) refl) (eq-eqb (μ .da .0) (μ .da .0) refl))
+        (eq-eqb (μ .session .0) (μ .session .0) refl)
 
 -- the test by key is the test by number
 pub same-number : (κ : Key) → Small κ → (k : ℕ) → sameKey κ (keyAt k) ≡ eqb (keyNumber κ) k
 same-number κ s k =
     same-test (sameKey κ (keyAt k)) (eqb (keyNumber κ) k)
-      (λ e. eq-eqb (keyNumber κ) k (ap keyNumber (same-keys κ (keyAt k) e) ∙ number-of k))
-      (λ e. keys-same κ (keyAt k) (sym (key-of κ s) ∙ ap keyAt (eqb-true (keyNumber κ) k e)))
+    (λ e. eq-eqb (keyNumber κ) k (ap keyNumber (same-keys κ (keyAt k) e) ∙ number-of k))
+    (λ e. keys-same κ (keyAt k) (sym (key-of κ s) ∙ ap keyAt (eqb-true (keyNumber κ) k e)))
 
 pub other-key : (j k : ℕ) → (j ≡ k → ⊥) → sameKey (keyAt j) (keyAt k) ≡ false
 other-key j k ne = or-false (sameKey (keyAt j) (keyAt k)) (λ e. ne (sym (number-of j) ∙ ap keyNumber (same-keys (keyAt j) (keyAt k) e) ∙ number-of k))
@@ -123,8 +123,8 @@ module _ (p : Slot → Bool) where
   from-some (x ∷ l) j i e = go (turn (p x) (firstAt p (j + 1) l) j i e) (from-some l (j + 1) i)
     where
       go : ((p x ≡ true) × (i ≡ j)) ⊎ (firstAt p (j + 1) l ≡ At i)
-        → (firstAt p (j + 1) l ≡ At i → (m : ℕ) × (i ≡ j + 1 + m) × (p (getD l m freeSlot) ≡ true) × (m < length l))
-        → (m : ℕ) × (i ≡ j + m) × (p (getD (x ∷ l) m freeSlot) ≡ true) × (m < length (x ∷ l))
+          → (firstAt p (j + 1) l ≡ At i → (m : ℕ) × (i ≡ j + 1 + m) × (p (getD l m freeSlot) ≡ true) × (m < length l))
+          → (m : ℕ) × (i ≡ j + m) × (p (getD (x ∷ l) m freeSlot) ≡ true) × (m < length (x ∷ l))
       go (inl q) ih = let e : i ≡ j = q .1 in (0, omega arith, q .0, omega arith)
       go (inr q) ih = let r = ih q in let e : i ≡ j + 1 + r .0 = r .1 in (suc (r .0), omega arith, r .2, suc-le-suc (r .3))
 

@@ -41,12 +41,12 @@ pub ok-true : (own : Address) (s : Session) → Ok own s → sessionOk own s ≡
 unfolding announced-tests
 ok-true own s h =
     both (announcedOk s && keyOk own s) (progressOk s)
-      (both (announcedOk s) (keyOk own s)
-        (all-of (announced-tests s) (le-leb 1 (s .total .0) (h .some), (le-leb (s .total .0) 4096 (h .most), (eq-eqb (s .segments .0) ((s .total .0 + 59) / 60) (h .count), (h .pgn, (h .max, tt))))))
-        (h .key))
-      (both (leb 1 (s .next .0) && leb (s .next .0) (s .segments .0 + 1)) (grantsOk (isRts (s .kind)) (s .next .0) (s .granted .0) (s .segments .0))
-        (both (leb 1 (s .next .0)) (leb (s .next .0) (s .segments .0 + 1)) (le-leb 1 (s .next .0) (h .low)) (le-leb (s .next .0) (s .segments .0 + 1) (h .high)))
-        (h .grants))
+    (both (announcedOk s) (keyOk own s)
+    (all-of (announced-tests s) (le-leb 1 (s .total .0) (h .some), (le-leb (s .total .0) 4096 (h .most), (eq-eqb (s .segments .0) ((s .total .0 + 59) / 60) (h .count), (h .pgn, (h .max, tt))))))
+    (h .key))
+    (both (leb 1 (s .next .0) && leb (s .next .0) (s .segments .0 + 1)) (grantsOk (isRts (s .kind)) (s .next .0) (s .granted .0) (s .segments .0))
+    (both (leb 1 (s .next .0)) (leb (s .next .0) (s .segments .0 + 1)) (le-leb 1 (s .next .0) (h .low)) (le-leb (s .next .0) (s .segments .0 + 1) (h .high)))
+    (h .grants))
 
 pub true-ok : (own : Address) (s : Session) → sessionOk own s ≡ true → Ok own s
 unfolding announced-tests
@@ -85,9 +85,10 @@ grants-next true n granted segments max m h g = go (or-either _ _ g) (eqb n gran
   where
     z : 1 ≤ max
     z = leb-true 1 max m
+
     go : ((leb n granted && leb granted segments) ≡ true) ⊎ ((eqb n (segments + 1) && eqb granted segments) ≡ true)
-      → (a : Bool) → eqb n granted ≡ a → (b : Bool) → ltb n segments ≡ b
-      → grantsOk true (n + 1) (cond (a && b) (n + min (min max 16) (segments - n)) granted) segments ≡ true
+        → (a : Bool) → eqb n granted ≡ a → (b : Bool) → ltb n segments ≡ b
+        → grantsOk true (n + 1) (cond (a && b) (n + min (min max 16) (segments - n)) granted) segments ≡ true
     go (inr f) a ea b eb = absurd (let y : n ≡ segments + 1 = eqb-true n (segments + 1) (and-left _ _ f) in omega arith)
     go (inl f) true ea true eb =
         let x : 1 ≤ max = z in
