@@ -13,3 +13,4 @@ pub mod Read
 pub mod Many
 pub mod InBounds
 pub mod Demand3
+pub mod Refused
