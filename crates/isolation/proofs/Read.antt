@@ -18,7 +18,13 @@ use Rattle.frame.specs.declared.refusal.Refusal.the-variants.{FrameLength, Iden
 use Rattle.frame.specs.Identifiers.{identifierOf}
 use Rattle.frame.specs.Lengths.{isLength}
 use Rattle.frame.specs.Judge.{routeTaken, byFormat, routeOf, judged}
-use Rattle.multi_pg.specs.Groups.{Reading, good, bad, reading}
+use Rattle.multi_pg.specs.Groups.{tos, tf, pgnAt, dataLength, stepAt, Reading, good, bad, after, onStep, readFrom, reading}
+use Rattle.multi_pg.specs.declared.Group.{Group}
+use Rattle.multi_pg.specs.declared.Step.{Step}
+use Rattle.multi_pg.specs.declared.Step.the-variants as step
+use Rattle.frame.specs.Pgn.{lowByteOk}
+use Rattle.frame.specs.Refusals.{numberOf}
+use Rattle.receiver.specs.Answers.{answerNumber}
 use Rattle.transport.specs.declared.Key.{Key}
 use Rattle.transport.specs.declared.Kind.the-variants.{Rts, Bam}
 use Rattle.transport.specs.declared.control.Control.{Control}
@@ -38,11 +44,16 @@ use Rattle.isolation.proofs.Tests.{or-false, clash, and-left, and-right
 use Rattle.isolation.proofs.Slots.{Small, key-of, keyNumber}
 use Rattle.isolation.proofs.Single.{Mine, bodyStep, Reads}
 
+-- numbers of refusals that end no session and have nothing to do with bounds
+abbrev pub mild : ℕ → Bool
+mild n = not (eqb n 19 || eqb n 21 || eqb n 23)
+
 -- a frame that is no session's own: it is answered, and nothing changes
 pub record Foreign (r : Receiver) (m : List ℕ) (o : Outcome) : Type 0 where
   pub answer : Answer
   pub same : o ≡ (answered r answer, m)
   pub quiet : (j : ℕ) → touches j answer ≡ false
+  pub mildly : mild (answerNumber answer) ≡ true
 
 -- the receiver does with the frame what its key's body asks
 abbrev pub Takes : Receiver → List ℕ → List ℕ → Key → Outcome → Option Body → Type 0
@@ -52,9 +63,9 @@ Takes r d m κ o (some b) = (o ≡ bodyStep r κ b d m) × Reads d b
 pub record Agrees (r : Receiver) (d m : List ℕ) (κ : Key) (o : Outcome) (b : Option Body) : Type 0 where
   pub does : Takes r d m κ o b
 
-foreign : (r : Receiver) (m : List ℕ) (n : Refusal) → Foreign r m (refused r n, m)
+foreign : (r : Receiver) (m : List ℕ) (n : Refusal) → mild (numberOf n) ≡ true → Foreign r m (refused r n, m)
 unfolding touches
-foreign r m n = record { answer = answer.Refused n; same = refl; quiet = λ j. refl }
+foreign r m n e = record { answer = answer.Refused n; same = refl; quiet = λ j. refl; mildly = e }
 
 module _ (r : Receiver) (d m : List ℕ) (κ : Key) where
   agree-control : (c c′ : Control) (b b′ : Option Body) (t : Bool) → Agrees r d m κ (onControl c r κ, m) b → Agrees r d m κ (onControl c′ r κ, m) b′
@@ -65,28 +76,74 @@ module _ (r : Receiver) (d m : List ℕ) (κ : Key) where
   control-agrees : Agrees r d m κ (onControl (controlOf d) r κ, m) (controlBody d)
   unfolding controlOf controlBody
   control-agrees =
-      agree-control _ _ _ _ (not (eqb (length d) 12)) (record { does = foreign r m TransferLength })
+      agree-control _ _ _ _ (not (eqb (length d) 12)) (record { does = foreign r m TransferLength refl })
       (agree-control _ _ _ _ (eqb (controlAt d) 0) (record { does = (refl, tt) })
       (agree-control _ _ _ _ (eqb (controlAt d) 4) (record { does = (refl, tt) })
       (agree-control _ _ _ _ (eqb (controlAt d) 2) (record { does = (refl, tt) })
       (agree-control _ _ _ _ (eqb (controlAt d) 15 && eqb (roleAt d) 0) (record { does = (refl, tt) })
-      (record { does = foreign r m NotReceivers })))))
+      (record { does = foreign r m NotReceivers refl })))))
 
   data-agrees : Agrees r d m κ (onData (dataFrameOf d) r κ d m) (dataBody d)
   unfolding dataFrameOf dataBody
   data-agrees = go (ltb (length d) 5)
     where
       go : (t : Bool) → Agrees r d m κ (onData (cond t (dataframe.Refused TransferLength) (dataframe.Segment (segmentAt d))) r κ d m) (cond t none (some (segment (formatAt d) (numberAt d) (dataAt d))))
-      go true = record { does = foreign r m TransferLength }
+      go true = record { does = foreign r m TransferLength refl }
       go false = record { does = (rw (length-drop 4 d), refl) }
 
 -- ---- by PF
 
+-- a Multi-PG frame is refused with 4 to 8
+
+mildStep : Step → Bool
+mildStep step.End = true
+mildStep (step.Fault n) = mild (numberOf n)
+mildStep (step.At g) = true
+
+mildReading : Reading → Bool
+mildReading (good gs) = true
+mildReading (bad n) = mild (numberOf n)
+
+step-cond : (t : Bool) (x y : Step) → mildStep x ≡ true → mildStep y ≡ true → mildStep (cond t x y) ≡ true
+step-cond true x y a b = a
+step-cond false x y a b = b
+
+step-mild : (d : List ℕ) (at : ℕ) → mildStep (stepAt d at) ≡ true
+unfolding mildStep
+step-mild d at =
+    step-cond (leb (length d) at) _ _ refl
+    (step-cond (eqb (tos d at) 0) _ _ refl
+    (step-cond (ltb (length d - at) 4) _ _ refl
+    (step-cond (not (eqb (tos d at) 2)) _ _ refl
+    (step-cond (not (eqb (tf d at) 0)) _ _ refl
+    (step-cond (not (lowByteOk (pgnAt d at))) _ _ refl
+    (step-cond (ltb (length d - at - 4) (dataLength d at)) _ _ refl refl))))))
+
+after-mild : (g : Group) (x : Reading) → mildReading x ≡ true → mildReading (after g x) ≡ true
+unfolding mildReading
+after-mild g (good gs) e = refl
+after-mild g (bad n) e = e
+
+on-mild : (x : Step) (rest : Group → Reading) → mildStep x ≡ true → ((g : Group) → mildReading (rest g) ≡ true) → mildReading (onStep x rest) ≡ true
+unfolding mildStep mildReading
+on-mild step.End rest e f = refl
+on-mild (step.Fault n) rest e f = e
+on-mild (step.At g) rest e f = after-mild g (rest g) (f g)
+
+read-mild : (n : ℕ) (d : List ℕ) (at : ℕ) → mildReading (readFrom n d at) ≡ true
+unfolding readFrom mildReading
+read-mild zero d at = refl
+read-mild (suc n) d at = on-mild (stepAt d at) (λ g. readFrom n d (g .start + g .len)) (step-mild d at) (λ g. read-mild n d (g .start + g .len))
+
+reading-mild : (d : List ℕ) → mildReading (reading d) ≡ true
+unfolding reading
+reading-mild d = read-mild (suc (length d)) d 0
+
 module _ (r : Receiver) (id : ℕ) (d m : List ℕ) where
-  groups-foreign : (g : Reading) → Foreign r m (groupsStep g r, m)
-  unfolding touches
-  groups-foreign (good gs) = record { answer = answer.Groups; same = refl; quiet = λ j. refl }
-  groups-foreign (bad n) = record { answer = answer.Refused n; same = refl; quiet = λ j. refl }
+  groups-foreign : (g : Reading) → mildReading g ≡ true → Foreign r m (groupsStep g r, m)
+  unfolding touches mildReading
+  groups-foreign (good gs) e = record { answer = answer.Groups; same = refl; quiet = λ j. refl; mildly = refl }
+  groups-foreign (bad n) e = record { answer = answer.Refused n; same = refl; quiet = λ j. refl; mildly = e }
 
   format-agrees : (pf : ℕ) (ρ : Route) → Agrees r d m (keyOf ρ d) (onVerdict (byFormat pf ρ) r d m) (cond (eqb pf 77) (controlBody d) (cond (eqb pf 78) (dataBody d) none))
   unfolding byFormat controlStep
@@ -95,14 +152,14 @@ module _ (r : Receiver) (id : ℕ) (d m : List ℕ) where
       other : (a b : Bool) → Agrees r d m (keyOf ρ d) (onVerdict (cond a (verdict.Control ρ) (cond b (verdict.Data ρ) (verdict.Refused NotTaken))) r d m) (cond a (controlBody d) (cond b (dataBody d) none))
       other true b = control-agrees r d m (keyOf ρ d)
       other false true = data-agrees r d m (keyOf ρ d)
-      other false false = record { does = foreign r m NotTaken }
+      other false false = record { does = foreign r m NotTaken refl }
 
       go : (t : Bool) → eqb pf 37 ≡ t
           → Agrees r d m (keyOf ρ d) (onVerdict (cond t (verdict.MultiPg ρ) (cond (eqb pf 77) (verdict.Control ρ) (cond (eqb pf 78) (verdict.Data ρ) (verdict.Refused NotTaken)))) r d m)
           (cond (eqb pf 77) (controlBody d) (cond (eqb pf 78) (dataBody d) none))
       go true e =
           let z : pf ≡ 37 = eqb-true pf 37 e in
-          rw (ne-eqb pf 77 (λ y. omega arith), ne-eqb pf 78 (λ y. omega arith)) (record { does = groups-foreign (reading d) })
+          rw (ne-eqb pf 77 (λ y. omega arith), ne-eqb pf 78 (λ y. omega arith)) (record { does = groups-foreign (reading d) (reading-mild d) })
       go false e = other (eqb pf 77) (eqb pf 78)
 
 -- ---- 2, 1, 3
@@ -142,9 +199,9 @@ key-read id d = key-of (keyOf (routeOf (identifierOf id)) d) (record { da = omeg
 judged-agrees : (r : Receiver) (id : ℕ) (d m : List ℕ) (κ : Key) (a b c : Bool) (w : Verdict) (x : Option Body) → Agrees r d m κ (onVerdict w r d m) x
     → Agrees r d m κ (onVerdict (cond a (verdict.Refused IdentifierRange) (cond (not b) (verdict.Refused FrameLength) (cond (not c) (verdict.Refused NotTaken) w))) r d m)
     (cond (not (not a && (b && c))) none x)
-judged-agrees r id d m κ true b c w x h = record { does = foreign r m IdentifierRange }
-judged-agrees r id d m κ false false c w x h = record { does = foreign r m FrameLength }
-judged-agrees r id d m κ false true false w x h = record { does = foreign r m NotTaken }
+judged-agrees r id d m κ true b c w x h = record { does = foreign r m IdentifierRange refl }
+judged-agrees r id d m κ false false c w x h = record { does = foreign r m FrameLength refl }
+judged-agrees r id d m κ false true false w x h = record { does = foreign r m NotTaken refl }
 judged-agrees r id d m κ false true true w x h = h
 
 -- the receiver and the rules read the frame alike
