@@ -14,3 +14,4 @@ pub mod Many
 pub mod InBounds
 pub mod Demand3
 pub mod Refused
+pub mod Message
