@@ -15,3 +15,4 @@ pub mod InBounds
 pub mod Demand3
 pub mod Refused
 pub mod Message
+pub mod Table

@@ -85,7 +85,7 @@ announce-keeps v k last eight x a h =
     keeps-cond eight _ _ (λ _. h) (λ _.
     record {
       count = eqb-true (a .segments .0) (sixties (a .total .0)) (not-false (eqb (a .segments .0) (sixties (a .total .0)))
-        (or-left (not (eqb (a .segments .0) (sixties (a .total .0)))) (R.isRts (a .kind) && eqb (a .max) 0)
+          (or-left (not (eqb (a .segments .0) (sixties (a .total .0)))) (R.isRts (a .kind) && eqb (a .max) 0)
           (or-right (eqb (a .total .0) 0) (not (eqb (a .segments .0) (sixties (a .total .0))) || (R.isRts (a .kind) && eqb (a .max) 0)) bad)));
       filled = tt;
       upto = omega arith;
@@ -111,6 +111,7 @@ segment-keeps k last ρ n d h =
   where
     next : (n c : ℕ) → (n ≤ c → ⊥) → n ≤ c + 1 → n ≡ suc c
     next n c a b = omega arith
+
     size : n ≡ suc (length (ρ .pieces)) → due (ρ .told .total .0) n ≤ length d → length (take (due (ρ .told .total .0) n) d) ≡ due (ρ .told .total .0) (suc (length (ρ .pieces)))
     size e l = length-take (due (ρ .told .total .0) n) d ∙ least (due (ρ .told .total .0) n) (length d) l ∙ ap (due (ρ .told .total .0)) e
       where
@@ -214,14 +215,14 @@ status-hands : (k : ℕ) (ρ : Open) (s : Status) → Whole ρ → isHanded (sta
 unfolding statusOpen asAnnounced ending
 status-hands k ρ s h =
     hands-cond k (some ρ) (eqb (length (ρ .pieces)) (ρ .told .segments .0) && (eqb (s .total .0) (ρ .told .total .0) && (eqb (s .segments .0) (ρ .told .segments .0) && (eqb (s .assurance) (ρ .told .assurance) && eqb (s .pgn) (ρ .told .pgn))))) _ _
-      (λ t _. record {
-        session = ρ;
-        was = refl;
-        closed = refl;
-        reply = refl;
-        size = all-joined ρ h (eqb-true (length (ρ .pieces)) (ρ .told .segments .0) (and-left (eqb (length (ρ .pieces)) (ρ .told .segments .0)) _ t));
-      })
-      (λ _. not-handed k (some ρ) _ refl)
+    (λ t _. record {
+      session = ρ;
+      was = refl;
+      closed = refl;
+      reply = refl;
+      size = all-joined ρ h (eqb-true (length (ρ .pieces)) (ρ .told .segments .0) (and-left (eqb (length (ρ .pieces)) (ρ .told .segments .0)) _ t));
+    })
+    (λ _. not-handed k (some ρ) _ refl)
 
 -- In whatever state a list of frames and readings left the rules: a frame that hands over closes the session, and the message is its data
 -- joined, exactly Total Bytes long. A session hands over once, since a closed one does not hand over.
@@ -248,6 +249,6 @@ closed-hands-nothing v k last eight b =
 
 pub message-whole : (v : Values) (k first : ℕ) (xs : List Input) (eight : Bool) (b : Body)
     → let s : State = after v k (fresh first) xs in
-      isHanded (rule v k (s .last) eight (s .session) b .1 .says) ≡ true → Hands k (s .session) (rule v k (s .last) eight (s .session) b)
+    isHanded (rule v k (s .last) eight (s .session) b .1 .says) ≡ true → Hands k (s .session) (rule v k (s .last) eight (s .session) b)
 message-whole v k first xs eight b =
     hands-over v k (after v k (fresh first) xs .last) eight (after v k (fresh first) xs .session) b (after-keeps v k (fresh first) xs tt)

@@ -90,6 +90,7 @@ module _ (r : Receiver) (m : List ℕ) (κ : Key) where
       granted : (i : ℕ) (t : Bool) → Effect r m κ (answered (withSlot r i (is.Open (sessionOf κ a (r .last)))) (cond t (answer.Grant (firstCts κ a)) (answer.Opened κ)), m)
       granted i true = accepts refl
       granted i false = accepts refl
+
       go : (f g : Found) → Effect r m κ (onFound f (λ i. rejected r κ a KeyOpen) (onFound g (λ i. openedIn r i κ a) (rejected r κ a SlotsFull)), m)
       go (At i) g = reject-effect a KeyOpen refl
       go Nothing (At i) = granted i (isRts (a .kind))
@@ -116,6 +117,7 @@ module _ (r : Receiver) (m : List ℕ) (κ : Key) where
       at-slot : (i : ℕ) → keyPlace κ (r .slots) ≡ At i → (x : SlotState) → at (r .slots) i ≡ x → Effect r m κ (g (onState x (λ s. f i s) n))
       at-slot i e is.Free p = z
       at-slot i e (is.Open s) p = h i s e p
+
       go : (p : Found) → keyPlace κ (r .slots) ≡ p → Effect r m κ (g (onFound p (λ i. onState (at (r .slots) i) (λ s. f i s) n) n))
       go Nothing e = z
       go (At i) e = at-slot i e (at (r .slots) i) refl
@@ -125,7 +127,7 @@ module _ (r : Receiver) (m : List ℕ) (κ : Key) where
   status-effect st = key-effect (λ x. (x, m)) (λ i s. C.statusOpen r i s st) (refused r KeyNotOpen) (λ i s e p. go i s e p (statusMatches s st)) (same (answer.Refused KeyNotOpen) refl)
     where
       go : (i : ℕ) (s : Session) → keyPlace κ (r .slots) ≡ At i → at (r .slots) i ≡ is.Open s → (t : Bool)
-        → Effect r m κ (cond t (answered (withSlot r i is.Free) (answer.HandedOver (C.messageOf i s))) (C.ended r i s StatusMismatch), m)
+          → Effect r m κ (cond t (answered (withSlot r i is.Free) (answer.HandedOver (C.messageOf i s))) (C.ended r i s StatusMismatch), m)
       go i s e p true = accepts refl
       go i s e p false = ends-one (record { slot = i; session = s; refusal = StatusMismatch; number = inr refl; found = e; state = p; does = refl })
 
@@ -145,6 +147,7 @@ module _ (r : Receiver) (m : List ℕ) (κ : Key) where
       taken : (t : Bool) → Effect r m κ (answered (withSlot r i (is.Open (advancedBy s n (r .last)))) (cond t (answer.Grant (nextCts s n)) (answer.Taken (record { key = s .key; number = record { 0 = n } }))), C.stored i s n d m)
       taken true = accepts refl
       taken false = accepts refl
+
       go : (a b c t : Bool) → Effect r m κ (onJudged (cond a (judged.Refused AlreadyTaken) (cond b (judged.Ends OutOfSequence) (cond c (judged.Refused SegmentCut) judged.Takes))) r i s n d m)
       go true b c t = same (answer.Refused AlreadyTaken) refl
       go false true c t = ends-one (record { slot = i; session = s; refusal = OutOfSequence; number = inl refl; found = e; state = p; does = refl })
@@ -175,6 +178,7 @@ frame-effect r id d m = go (isReady r m) refl
     read none f =
         changes-nothing (ap (λ (o : Outcome). o .0 .next) (f .same)) (ap (λ (o : Outcome). o .1) (f .same)) (ap (λ (o : Outcome). mild (answerNumber (o .0 .answer))) (f .same) ∙ f .mildly)
     read (some b) t = subst (λ (o : Outcome). Effect r m (keyAt (frameKey id d)) o) (sym (t .0)) (body-effect r m (keyAt (frameKey id d)) b d)
+
     go : (t : Bool) → isReady r m ≡ t → Effect r m (keyAt (frameKey id d)) (cond t (onVerdict (judged-frame (r .own) id (length d)) r d m) (refused r OutOfBounds, m))
     go true e = read (bodyOf (r .own) id d) (frame-agrees r id d m .does)
     go false e = out-of-bounds e refl
@@ -196,9 +200,11 @@ refusal-keeps-record r id d m n a b = go (frame-effect r id d m)
   where
     number-is : (e : EndsOne r m (keyAt (frameKey id d)) (frameAll r id d m)) → answerNumber (frameStep r id d m .answer) ≡ numberOf (e .refusal)
     number-is e = ap (λ (o : Outcome). answerNumber (o .0 .answer)) (e .does)
+
     which : (e : EndsOne r m (keyAt (frameKey id d)) (frameAll r id d m)) → (numberOf (e .refusal) ≡ 19) ⊎ (numberOf (e .refusal) ≡ 21) → ⊥
     which e (inl z) = a (number-is e ∙ z)
     which e (inr z) = b (number-is e ∙ z)
+
     go : Effect r m (keyAt (frameKey id d)) (frameAll r id d m) → frameStep r id d m .next ≡ r
     go (accepts e) = absurd (n e)
     go (changes-nothing e f g) = e
@@ -213,14 +219,17 @@ refusal-ends-one r id d m n = go (frame-effect r id d m) n
     no-mild : (x : ℕ) → mild x ≡ true → (x ≡ 19) ⊎ (x ≡ 21) → ⊥
     no-mild x e (inl z) = clash (mild x) e (rw z)
     no-mild x e (inr z) = clash (mild x) e (rw z)
+
     zero-no : (x : ℕ) → x ≡ 0 → (x ≡ 19) ⊎ (x ≡ 21) → ⊥
     zero-no x e (inl z) = omega arith
     zero-no x e (inr z) = omega arith
+
     bounds-no : (x : ℕ) → x ≡ 23 → (x ≡ 19) ⊎ (x ≡ 21) → ⊥
     bounds-no x e (inl z) = omega arith
     bounds-no x e (inr z) = omega arith
+
     go : Effect r m (keyAt (frameKey id d)) (frameAll r id d m) → (answerNumber (frameStep r id d m .answer) ≡ 19) ⊎ (answerNumber (frameStep r id d m .answer) ≡ 21)
-      → EndsOne r m (keyAt (frameKey id d)) (frameAll r id d m)
+        → EndsOne r m (keyAt (frameKey id d)) (frameAll r id d m)
     go (accepts e) h = absurd (zero-no (answerNumber (frameStep r id d m .answer)) e h)
     go (changes-nothing e f g) h = absurd (no-mild (answerNumber (frameStep r id d m .answer)) g h)
     go (ends-one e) h = e
@@ -232,9 +241,11 @@ never-23 r id d m b whole n = go (frame-effect r id d m)
   where
     ready : isReady r m ≡ true
     ready = both (eqb (length m) 32768) (inBounds r) (eq-eqb (length m) 32768 whole) b
+
     which : (k : ℕ) → (k ≡ 19) ⊎ (k ≡ 21) → k ≡ 23 → ⊥
     which k (inl e) f = omega arith
     which k (inr e) f = omega arith
+
     go : Effect r m (keyAt (frameKey id d)) (frameAll r id d m) → ⊥
     go (accepts e) = let z : _≡_ {A = ℕ} 0 23 = sym e ∙ n in omega arith
     go (changes-nothing e f g) = clash (mild (answerNumber (frameStep r id d m .answer))) g (rw n)
@@ -272,12 +283,12 @@ unfolding readingStep
 reading-effect r t m i = go (isReady r m)
   where
     go : (b : Bool) → let e : Elapsed = cond b (readingKept r t) (record { next = r; answer = kept.Refused OutOfBounds; ends = replicate 8 stays }) in
-      SlotEffect (at (r .slots) i) (endAt e i) (at (e .next .slots) i)
+        SlotEffect (at (r .slots) i) (endAt e i) (at (e .next .slots) i)
     go true =
         let a : at (map (expired (r .limit) t) (r .slots)) i ≡ expiredState (r .limit) t (at (r .slots) i) =
-          ap (λ (x : Slot). x .state) (List·getD-map (expired (r .limit) t) (r .slots) i freeSlot) in
+        ap (λ (x : Slot). x .state) (List·getD-map (expired (r .limit) t) (r .slots) i freeSlot) in
         let b : getD (map (slotEnd (r .limit) t) (r .slots)) i stays .end ≡ endOf (r .limit) t (at (r .slots) i) =
-          ap (λ (x : SlotEnd). x .end) (List·getD-map (slotEnd (r .limit) t) (r .slots) i freeSlot) in
+        ap (λ (x : SlotEnd). x .end) (List·getD-map (slotEnd (r .limit) t) (r .slots) i freeSlot) in
         rw (a, b) (slot-effect (r .limit) t (at (r .slots) i))
     go false = stays-open (no-ends 8 i) refl
 
