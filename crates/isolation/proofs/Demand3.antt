@@ -1,28 +1,25 @@
 -- Demand 3 of document 01, whole: no session can disturb another.
 use Prim.Native.Nat.{ℕ, zero, suc}
 use mathlib.Core.Path.{_≡_, refl, sym, ap, _∙_, subst}
-use mathlib.Core.Bool.{Bool, true, false, cond, not, _&&_, _||_}
-use mathlib.Core.Option.{Option, none, some}
-use mathlib.Core.List.{List, [], _∷_, _++_, map}
+use mathlib.Core.Bool.{Bool, true, false, cond}
+use mathlib.Core.List.{List, [], _∷_, _++_}
 use lib.Dec.{eqb}
-use lib.ListN.{length, getD, replicate, length-replicate}
+use lib.ListN.{length, replicate, length-replicate}
 use borrow.Author.Tests.{eq-eqb}
 use Rattle.frame.specs.declared.Address.{Address}
 use Rattle.frame.specs.declared.refusal.Refusal.the-variants.{OutOfBounds}
 use Rattle.frame.specs.Judge.{judged}
 use Rattle.receiver.specs.declared.Receiver.{Receiver}
-use Rattle.receiver.specs.declared.slot.SlotState.the-variants as is
 use Rattle.receiver.specs.declared.answer.Opening.{Opening}
 use Rattle.receiver.specs.declared.answer.Opening.the-variants.{Accepted, Refused}
 use Rattle.receiver.specs.declared.answer.Kept.the-variants as kept
-use Rattle.receiver.specs.declared.answer.SlotEnd.{SlotEnd}
 use Rattle.receiver.specs.declared.answer.Elapsed.{Elapsed}
 use Rattle.receiver.specs.Slots.{freeSlot}
 use Rattle.receiver.specs.Bounds.{openingOk, stateOk, inBounds, opened, openedWith}
 use Rattle.receiver.specs.Calls.{Outcome, refused, isReady, onVerdict, frameAll, readingKept, readingStep, stays}
 use Rattle.isolation.specs.Rules.{Values, keyAt, frameKey, bodyOf, State, fresh, Input, Seen, nextState, output, outputs}
 use Rattle.isolation.specs.World.{Event, frame, clock, Call, lent, elsewhere, World, sees, after, worldAfter, told}
-use Rattle.isolation.specs.Observe.{touches, lost, strays, frameSeen, endingOf, endingsOf, keptNumber, readingSeen, isBoundsRefusal, frameElsewhere, readingElsewhere, shows, recordAfter, storeAfter, observed}
+use Rattle.isolation.specs.Observe.{touches, lost, strays, endingOf, endingsOf, keptNumber, readingSeen, isBoundsRefusal, frameElsewhere, readingElsewhere, shows, recordAfter, storeAfter, observed}
 use Rattle.isolation.specs.Stands.{valuesOf, standsFor}
 use Rattle.isolation.proofs.Tests.{clash, both}
 use Rattle.isolation.proofs.Slots.{at, holds, holds-free}

@@ -1,11 +1,11 @@
 -- How a call of the receiver and the rules of one key keep step.
-use Prim.Native.Nat.{ℕ, zero, suc, _+_, _*_, _≤_, _<_}
-use mathlib.Core.Path.{_≡_, refl, sym, ap, _∙_, subst}
-use mathlib.Core.Logic.{_⊎_, inl, inr}
-use mathlib.Core.Bool.{Bool, true, false, cond, not, _&&_, _||_}
+use Prim.Native.Nat.{ℕ, _+_, _<_}
+use mathlib.Core.Path.{_≡_, refl}
+use mathlib.Core.Logic.{_⊎_}
+use mathlib.Core.Bool.{Bool, true, false, cond}
 use mathlib.Core.Option.{Option, none, some}
-use mathlib.Core.List.{List, [], _∷_}
-use lib.ListN.{length, getD}
+use mathlib.Core.List.{List}
+use lib.ListN.{length}
 use Rattle.frame.specs.declared.refusal.Refusal.{Refusal}
 use Rattle.transport.specs.declared.Key.{Key}
 use Rattle.transport.specs.declared.control.Announcement.{Announcement}
@@ -14,16 +14,14 @@ use Rattle.session.specs.declared.Session.{Session}
 use Rattle.session.specs.declared.announcement.Form.{Form}
 use Rattle.session.specs.declared.announcement.Form.the-variants as form
 use Rattle.session.specs.declared.segment.Judged.{Judged}
-use Rattle.session.specs.declared.segment.Judged.the-variants as judged
 use Rattle.receiver.specs.declared.Receiver.{Receiver}
-use Rattle.receiver.specs.declared.slot.Slot.{Slot}
 use Rattle.receiver.specs.declared.slot.SlotState.{SlotState}
 use Rattle.receiver.specs.declared.slot.SlotState.the-variants as slot
 use Rattle.receiver.specs.declared.answer.Answer.{Answer}
 use Rattle.receiver.specs.declared.answer.Stepped.{Stepped}
 use Rattle.receiver.specs.Calls.{Outcome, withSlot, rejected, onForm, onJudged}
 use Rattle.receiver.specs.Answers.{wireOf}
-use Rattle.isolation.specs.Rules.{Values, keyAt, Open, Out, Reply, Wire, sent}
+use Rattle.isolation.specs.Rules.{Values, keyAt, Open, Out, Reply, sent}
 use Rattle.isolation.specs.Observe.{replyOf, touches}
 use Rattle.isolation.proofs.Slots.{Slots, at, holds}
 use Rattle.isolation.proofs.Bytes.{part, Within}

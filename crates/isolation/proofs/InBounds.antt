@@ -1,15 +1,13 @@
 -- A record that keeps step is in bounds, and every record in bounds is one that some world of rules explains.
-use Prim.Native.Nat.{ℕ, zero, suc, _+_, _*_, _-_, _/_, _%_, _≤_, _<_, min}
+use Prim.Native.Nat.{ℕ, zero, suc, _+_, _*_, _-_, _/_, _≤_}
 use mathlib.Core.Path.{_≡_, refl, sym, ap, ap₂, _∙_, subst}
-use mathlib.Core.Bool.{Bool, true, false, cond, not, _&&_, _||_}
-use mathlib.Core.Option.{Option, none, some}
-use mathlib.Core.List.{List, [], _∷_, _++_}
+use mathlib.Core.Bool.{Bool, true, false, not, _&&_, _||_}
+use mathlib.Core.Option.{none, some}
+use mathlib.Core.List.{List, [], _∷_}
 use native.Mathlib.Omega.{arith}
-use native.Mathlib.Numerals.{add-one}
-use lib.Dec.{eqb, leb, ltb}
-use lib.ListN.{length, getD, take, drop}
+use lib.ListN.{length, take, drop}
 use lib.Seq.{take-take, drop-drop}
-use borrow.Author.Tests.{eqb-true, eqb-false, eq-eqb, ne-eqb, le-leb, lt-ltb, ltb-true, leb-true, not-false, not-true}
+use borrow.Author.Tests.{not-true}
 use Rattle.laws.specs.Windows.{drop-take}
 use Rattle.frame.specs.declared.Address.{Address}
 use Rattle.transport.specs.declared.Key.{Key}
@@ -21,34 +19,39 @@ use Rattle.receiver.specs.declared.slot.SlotState.{SlotState}
 use Rattle.receiver.specs.declared.slot.SlotState.the-variants as is
 use Rattle.receiver.specs.declared.slot.Found.{Found}
 use Rattle.receiver.specs.declared.slot.Found.the-variants.{At, Nothing}
-use Rattle.receiver.specs.Slots.{keyPlace, freeSlot, onFound}
+use Rattle.receiver.specs.Slots.{keyPlace, onFound}
 use Rattle.receiver.specs.Bounds.{openingOk, stateOk, slotOk, anyHolds, stateTwin, twinOf, slotsOk, inBounds}
-use Rattle.isolation.specs.Rules.{Values, keyAt, Open, Piece, due}
+use Rattle.isolation.specs.Rules.{Values, keyAt, Open, Piece}
 use Rattle.isolation.specs.World.{World}
+use Rattle.isolation.specs.Observe.{openIn}
 use Rattle.isolation.specs.Stands.{valuesOf, piecesOf, openOf, standsFor}
 use Rattle.isolation.proofs.Tests.{or-false, clash, and-left, and-right, both}
-use Rattle.isolation.proofs.Slots.{Slots, at, holds, holds-free, open-key, own-key, keys-same, keyNumber, Small, key-of, find-some, find-none, Unique}
+use Rattle.isolation.proofs.Slots.{Slots, at, holds, holds-same, holds-free, open-key, keys-same, keyNumber, key-of, find-some, find-none, Unique}
 use Rattle.isolation.proofs.Bytes.{part}
 use Rattle.isolation.proofs.Opened.{any, any-from, any-none, Bounded}
 use Rattle.isolation.proofs.Same.{due-same}
 use Rattle.isolation.proofs.Pieces.{window, cut, length-cut, segment-inside}
 use Rattle.isolation.proofs.Sound.{Ok, true-ok}
-use Rattle.isolation.proofs.Fit.{recordOf, Rel, Ses}
+use Rattle.isolation.proofs.Fit.{Ses}
 use Rattle.isolation.proofs.Many.{Sim, own-small, state-bounded}
 
 -- ---- the slots
 
+any-same : (k : ℕ) (l : Slots) → any k l ≡ anyHolds (keyAt k) l
+unfolding any openIn holds
+any-same k [] = refl
+any-same k (x ∷ l) = ap₂ (λ (s t : Bool). s || t) (sym (holds-same k (x .state))) (any-same k l)
+
 alone-true : (n : ℕ) (x : SlotState) (l : Slots) → Bounded n x → ((k : ℕ) → holds k x ≡ true → any k l ≡ false) → not (stateTwin x l) ≡ true
-unfolding holds any
+unfolding holds
 alone-true n is.Free l b h = refl
 alone-true n (is.Open s) l b h =
     let e : keyAt (keyNumber (s .key)) ≡ s .key = key-of (s .key) (b .small s refl) in
-    ap not (subst (λ (κ : Key). anyHolds κ l ≡ false) e (h (keyNumber (s .key)) (keys-same (s .key) (keyAt (keyNumber (s .key))) (sym e))))
+    ap not (subst (λ (κ : Key). anyHolds κ l ≡ false) e (sym (any-same (keyNumber (s .key)) l) ∙ h (keyNumber (s .key)) (keys-same (s .key) (keyAt (keyNumber (s .key))) (sym e))))
 
 true-alone : (x : SlotState) (l : Slots) → not (stateTwin x l) ≡ true → (k : ℕ) → holds k x ≡ true → any k l ≡ false
-unfolding any
 true-alone is.Free l h k e = absurd (clash (holds k is.Free) e (holds-free k))
-true-alone (is.Open s) l h k e = rw (← open-key k s e) (not-true (anyHolds (s .key) l) h)
+true-alone (is.Open s) l h k e = any-same k l ∙ rw (← open-key k s e) (not-true (anyHolds (s .key) l) h)
 
 pub slots-true : (own : Address) → own .0 ≤ 253 → (l : Slots) → Unique l → ((i : ℕ) → stateOk own (at l i) ≡ true) → slotsOk own l ≡ true
 unfolding slotsOk

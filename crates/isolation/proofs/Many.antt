@@ -1,16 +1,16 @@
 -- The receiver keeps step with the world of rules, call by call.
-use Prim.Native.Nat.{ℕ, zero, suc, _+_, _*_, _%_, _≤_, _<_}
+use Prim.Native.Nat.{ℕ, zero, suc, _≤_, _<_}
 use mathlib.Core.Path.{_≡_, refl, sym, ap, ap₂, _∙_, subst}
 use mathlib.Core.Logic.{_⊎_, inl, inr}
-use mathlib.Core.Bool.{Bool, true, false, cond, not, _&&_, _||_}
+use mathlib.Core.Bool.{Bool, true, false, cond, not, _&&_}
 use mathlib.Core.Option.{Option, none, some}
 use mathlib.Core.List.{List, [], _∷_, _++_, map, append-nil}
 use native.Mathlib.Omega.{arith}
 use native.Mathlib.Decide.{ℕ-discrete}
 use lib.Dec.{eqb, leb}
-use lib.ListN.{length, getD, set, length-set, length-map, List·getD-map}
+use lib.ListN.{length, set, length-set, length-map, List·getD-map}
 use lib.Seq.{getD-set-same, getD-set-other}
-use borrow.Author.Tests.{eqb-true, eqb-false, eq-eqb, ne-eqb, le-leb, lt-leb, leb-true}
+use borrow.Author.Tests.{eqb-true, eq-eqb, ne-eqb, le-leb, lt-leb, leb-true}
 use Rattle.laws.specs.Choice.{each-of}
 use Rattle.frame.specs.declared.Address.{Address}
 use Rattle.session.specs.declared.Session.{Session}
@@ -22,24 +22,22 @@ use Rattle.receiver.specs.declared.slot.SlotState.{SlotState}
 use Rattle.receiver.specs.declared.slot.SlotState.the-variants as is
 use Rattle.receiver.specs.declared.slot.Found.{Found}
 use Rattle.receiver.specs.declared.slot.Found.the-variants.{At, Nothing}
-use Rattle.receiver.specs.declared.answer.SlotEnd.{SlotEnd}
-use Rattle.receiver.specs.declared.answer.Answer.{Answer}
 use Rattle.receiver.specs.Slots.{keyPlace, firstFree, freeSlot, freeState}
-use Rattle.receiver.specs.Bounds.{openingOk, keyOk, stateOk}
-use Rattle.receiver.specs.Calls.{Outcome, answered, withSlot, expired, expiredState, slotEnd, endOf, readingKept}
+use Rattle.receiver.specs.Bounds.{openingOk, stateOk}
+use Rattle.receiver.specs.Calls.{Outcome, withSlot, expired, expiredState, slotEnd, endOf, readingKept}
 use Rattle.isolation.specs.Rules as R
-use Rattle.isolation.specs.Rules.{Values, keyAt, frameKey, allKeys, Body, announce, segment, status, abort, bodyOf, Open, Out, State, Reply, isOpen, rule, ifOpen, judgedAt, endsAt, Input, mine, now, Seen, nextState, output, outputs}
-use Rattle.isolation.specs.World.{Event, frame, clock, Call, lent, World, count, eightOthers, isAnnouncement, seesBody, sees, after, worldAfter}
-use Rattle.isolation.specs.Observe.{replyOf, touches, isOpenIn, lost, isBody, isOwn, strays, frameSeen, endingOf, endingsOf, keptNumber, readingSeen}
-use Rattle.isolation.proofs.Tests.{or-false, clash, and-left, or-1, or-2}
+use Rattle.isolation.specs.Rules.{Values, keyAt, frameKey, allKeys, Body, announce, segment, status, abort, bodyOf, Open, Out, Reply, isOpen, rule, judgedAt, endsAt, mine, nextState, output, outputs}
+use Rattle.isolation.specs.World.{frame, clock, lent, World, eightOthers, isAnnouncement, seesBody, sees, after, worldAfter}
+use Rattle.isolation.specs.Observe.{replyOf, lost, isBody, isOwn, strays, frameSeen, endingOf, endingsOf, keptNumber, readingSeen}
+use Rattle.isolation.proofs.Tests.{or-false, clash, and-left, or-1}
 use Rattle.isolation.proofs.Slots.{Slots, at, holds, holds-free, holds-one, keyNumber, Small, find-some, find-none, lowest-some, lowest-none, Unique}
 use Rattle.isolation.proofs.Count.{count-same}
-use Rattle.isolation.proofs.Bytes.{part, Within}
+use Rattle.isolation.proofs.Bytes.{part}
 use Rattle.isolation.proofs.Opened.{any, any-from, any-none, others, others-less, others-all, Bounded, count-others}
 use Rattle.isolation.proofs.Sound.{Ok, ok-true, true-ok}
-use Rattle.isolation.proofs.Fit.{recordOf, Rel, Ses, Place, Moves, Stays, Fit}
-use Rattle.isolation.proofs.Single.{Mine, Held, Room, bodyStep, Reads, held-fit, shut-fit}
-use Rattle.isolation.proofs.Silent.{ses-holds, ses-key, ses-shut, expire-ses, expire-holds, ends-own, ends-other}
+use Rattle.isolation.proofs.Fit.{recordOf, Ses, Moves, Stays, Fit}
+use Rattle.isolation.proofs.Single.{Mine, bodyStep, Reads, held-fit, shut-fit}
+use Rattle.isolation.proofs.Silent.{ses-key, ses-shut, expire-ses, expire-holds, ends-own, ends-other}
 use Rattle.isolation.proofs.Read.{Foreign, Takes, Agrees, frame-mine}
 
 -- the receiver's record and store, and the world of rules
@@ -279,7 +277,7 @@ none-lost false b e = refl
 
 -- a key whose rules' session is as it was is not lost
 pub kept-open : (v : Values) (r r′ : Receiver) (m m′ : List ℕ) (w w′ : World) → Sim v r m w → Sim v r′ m′ w′ → (j : ℕ) → w′ j .session ≡ w j .session → lost j r r′ ≡ false
-unfolding lost isOpenIn any
+unfolding lost any
 kept-open v r r′ m m′ w w′ sim sim′ j e =
     none-lost (any j (r .slots)) (any j (r′ .slots)) (sym (open-any v r m w sim j) ∙ ap isOpen (sym e) ∙ open-any v r′ m′ w′ sim′ j)
 

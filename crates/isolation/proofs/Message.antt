@@ -1,23 +1,20 @@
 -- A message is handed over once, and is exactly its Total Bytes: a theorem on the rules of one session.
-use Prim.Native.Nat.{ℕ, zero, suc, _+_, _*_, _-_, _/_, _≤_, _<_, min}
-use mathlib.Core.Path.{_≡_, refl, sym, ap, ap₂, _∙_, subst}
-use mathlib.Core.Logic.{_⊎_, inl, inr}
+use Prim.Native.Nat.{ℕ, zero, suc, _+_, _*_, _-_, _/_, _≤_, min}
+use mathlib.Core.Path.{_≡_, refl, sym, ap, _∙_}
 use mathlib.Core.Bool.{Bool, true, false, cond, not, _&&_, _||_}
 use mathlib.Core.Option.{Option, none, some}
-use mathlib.Core.List.{List, [], _∷_, _++_}
+use mathlib.Core.List.{List, [], _∷_}
 use native.Mathlib.Omega.{arith}
 use native.Mathlib.Decide.{ℕ-discrete}
-use lib.Dec.{eqb, leb, ltb}
+use lib.Dec.{eqb, ltb}
 use lib.ListN.{length, take, length-take, length-append}
-use borrow.Author.Tests.{ltb-true, ltb-false, eqb-true, eqb-false, eq-eqb, ne-eqb, not-false, not-true, le-leb, leb-true, lt-ltb}
+use borrow.Author.Tests.{ltb-false, eqb-true, eqb-false, eq-eqb, ne-eqb, not-false}
 use Rattle.frame.specs.Pgn.{pgnOk}
-use Rattle.transport.specs.declared.Kind.{Kind}
 use Rattle.transport.specs.declared.control.Announcement.{Announcement}
 use Rattle.transport.specs.declared.control.Status.{Status}
-use Rattle.session.specs.Announcements as S
 use Rattle.session.specs.Segments.{dueOf}
 use Rattle.isolation.specs.Rules as R
-use Rattle.isolation.specs.Rules.{Values, Body, announce, segment, status, abort, Open, Out, State, Reply, Says, nothing, Piece, nextOf, reject, refuse, ending, cts, plain, handOver, closes, opens, announced, grant, due, sixties, spent, adds, asAnnounced, segmentOpen, statusOpen, abortOpen, rule, ifOpen, joined, pieceAt, isTaken, isOpen, judgedAt, Input, mine, now, nextState, fresh}
+use Rattle.isolation.specs.Rules.{Values, Body, announce, segment, status, abort, Open, Out, State, Reply, Says, nothing, Piece, nextOf, reject, ending, cts, handOver, closes, opens, announced, due, sixties, spent, adds, asAnnounced, segmentOpen, statusOpen, abortOpen, rule, ifOpen, joined, pieceAt, isTaken, isOpen, judgedAt, Input, mine, now, nextState, fresh}
 use Rattle.isolation.specs.World.{after}
 use Rattle.isolation.proofs.Tests.{or-false, clash, or-left, or-right, and-left, or-1, or-2}
 use Rattle.isolation.proofs.Same.{sixties-same, due-same}

@@ -1,39 +1,36 @@
 -- The keys that are open, counted over all keys, are the slots that are open.
-use Prim.Native.Nat.{ℕ, zero, suc, _+_, _≤_, _<_}
+use Prim.Native.Nat.{ℕ, zero, suc, _≤_, _<_}
 use mathlib.Core.Path.{_≡_, refl, sym, ap, _∙_}
-use mathlib.Core.Logic.{_⊎_, inl, inr}
 use mathlib.Core.Bool.{Bool, true, false, cond, not, _&&_, _||_}
-use mathlib.Core.List.{List, [], _∷_}
+use mathlib.Core.List.{[], _∷_}
 use native.Mathlib.Omega.{arith}
 use native.Mathlib.Decide.{ℕ-discrete}
 use lib.Dec.{eqb}
-use lib.ListN.{length, getD}
-use borrow.Author.Tests.{eqb-true, eqb-false, eq-eqb, ne-eqb}
-use Rattle.transport.specs.declared.Key.{Key}
+use lib.ListN.{length}
+use borrow.Author.Tests.{eq-eqb, ne-eqb}
 use Rattle.session.specs.declared.Session.{Session}
 use Rattle.receiver.specs.declared.slot.Slot.{Slot}
 use Rattle.receiver.specs.declared.slot.SlotState.{SlotState}
 use Rattle.receiver.specs.declared.slot.SlotState.the-variants.{Free, Open}
-use Rattle.receiver.specs.Slots.{sameKey, freeState}
-use Rattle.receiver.specs.Bounds.{anyHolds}
-use Rattle.isolation.specs.Rules.{keyAt}
+use Rattle.receiver.specs.Slots.{freeState}
 use Rattle.isolation.specs.World.{count}
-use Rattle.isolation.proofs.Tests.{or-false, clash, and-false, or-2}
+use Rattle.isolation.specs.Observe.{openIn}
+use Rattle.isolation.proofs.Tests.{or-false, and-false, or-2}
 use Rattle.isolation.proofs.Slots.{Slots, at, holds, keyNumber, Small, same-number, Unique}
 use Rattle.isolation.proofs.Count.{count-same, count-one}
 
 -- some slot holds the key
 unfoldable pub any : ℕ → Slots → Bool
-any k l = anyHolds (keyAt k) l
+any k l = openIn k l
 
 pub any-from : (k : ℕ) (l : Slots) (i : ℕ) → holds k (at l i) ≡ true → any k l ≡ true
-unfolding any holds
+unfolding any openIn holds
 any-from k [] i e = e
 any-from k (x ∷ l) zero e = rw e
 any-from k (x ∷ l) (suc i) e = or-2 (holds k (x .state)) (any k l) (any-from k l i e)
 
 pub any-none : (k : ℕ) (l : Slots) → ((i : ℕ) → holds k (at l i) ≡ false) → any k l ≡ false
-unfolding any holds
+unfolding any openIn holds
 any-none k [] e = refl
 any-none k (x ∷ l) e = rw (e 0) (any-none k l (λ i. e (suc i)))
 
@@ -113,7 +110,7 @@ count-nothing zero = refl
 count-nothing (suc n) = count-nothing n
 
 pub count-others : (n k : ℕ) (l : Slots) → Unique l → ((i : ℕ) → Bounded n (at l i)) → count (λ j. any j l && not (eqb j k)) n ≡ others k l
-unfolding any others holds
+unfolding any openIn others holds
 count-others n k [] u b = count-nothing n
 count-others n k (x ∷ l) u b =
     count-head n k (x .state) l (b 0) (head-alone x l u)

@@ -1,20 +1,19 @@
 -- The data taken, as the slot's bytes have it: segments 1 to n, each a window of the slot.
 use Prim.Native.Nat.{ℕ, zero, suc, _+_, _*_, _-_, _/_, _≤_, _<_, min}
-use mathlib.Core.Path.{_≡_, refl, sym, ap, ap₂, _∙_, subst}
+use mathlib.Core.Path.{_≡_, refl, sym, ap, ap₂}
 use mathlib.Core.Logic.{_⊎_, inl, inr}
-use mathlib.Core.Bool.{Bool, true, false, cond, not, _&&_, _||_}
-use mathlib.Core.List.{List, [], _∷_, _++_}
+use mathlib.Core.Bool.{true, false, cond, _||_}
+use mathlib.Core.List.{List, [], _∷_}
 use native.Mathlib.Omega.{arith}
-use native.Mathlib.Numerals.{add-one}
 use native.Mathlib.Decide.{ℕ-discrete}
-use lib.Dec.{eqb, leb, ltb}
+use lib.Dec.{eqb, ltb}
 use lib.ListN.{length, take, drop}
 use lib.Seq.{paste, take-add}
-use borrow.Author.Tests.{eqb-true, eqb-false, eq-eqb, ne-eqb, lt-ltb, le-ltb, ltb-true, ltb-false}
+use borrow.Author.Tests.{eqb-true, eq-eqb, ne-eqb, lt-ltb, ltb-true}
 use Rattle.laws.specs.Windows.{window-same, window-other}
 use Rattle.session.specs.Segments.{dueOf}
 use Rattle.isolation.specs.Rules.{Piece, isTaken, pieceAt, joined}
-use Rattle.isolation.proofs.Tests.{or-false, clash, or-either, or-1, or-2, same-test}
+use Rattle.isolation.proofs.Tests.{clash, or-either, or-1, or-2, same-test}
 
 -- the slot's bytes of segment n
 abbrev pub window : ℕ → List ℕ → ℕ → List ℕ

@@ -1,14 +1,13 @@
 -- A frame as the receiver reads it, and as the rules' own test does.
-use Prim.Native.Nat.{ℕ, zero, suc, _+_, _*_, _-_, _/_, _%_, _^_, _≤_, _<_}
-use mathlib.Core.Path.{_≡_, refl, sym, ap, _∙_, subst}
-use mathlib.Core.Logic.{_⊎_, inl, inr}
+use Prim.Native.Nat.{ℕ, zero, suc, _+_, _*_, _-_, _^_, _≤_, _<_}
+use mathlib.Core.Path.{_≡_, refl, ap}
 use mathlib.Core.Bool.{Bool, true, false, cond, not, _&&_, _||_}
 use mathlib.Core.Option.{Option, none, some}
-use mathlib.Core.List.{List, [], _∷_}
+use mathlib.Core.List.{List}
 use native.Mathlib.Omega.{arith}
 use lib.Dec.{eqb, leb, ltb}
-use lib.ListN.{length, drop, length-drop}
-use borrow.Author.Tests.{ltb-true, ltb-false, eqb-true, eqb-false, eq-eqb, ne-eqb, not-false, not-true, le-leb, leb-true, leb-false, lt-ltb, lt-leb}
+use lib.ListN.{length, length-drop}
+use borrow.Author.Tests.{ltb-true, eqb-true, eqb-false, ne-eqb, not-true, leb-false, lt-ltb, lt-leb}
 use Rattle.frame.specs.declared.Address.{Address}
 use Rattle.frame.specs.declared.judge.Route.{Route}
 use Rattle.frame.specs.declared.judge.Verdict.{Verdict}
@@ -26,22 +25,19 @@ use Rattle.frame.specs.Pgn.{lowByteOk}
 use Rattle.frame.specs.Refusals.{numberOf}
 use Rattle.receiver.specs.Answers.{answerNumber}
 use Rattle.transport.specs.declared.Key.{Key}
-use Rattle.transport.specs.declared.Kind.the-variants.{Rts, Bam}
 use Rattle.transport.specs.declared.control.Control.{Control}
-use Rattle.transport.specs.declared.control.Control.the-variants as control
-use Rattle.transport.specs.declared.segment.DataFrame.{DataFrame}
 use Rattle.transport.specs.declared.segment.DataFrame.the-variants as dataframe
-use Rattle.transport.specs.Control.{controlAt, sessionAt, roleAt, announcementAt, statusAt, abortPgnAt, keyOf, controlOf}
+use Rattle.transport.specs.Control.{controlAt, sessionAt, roleAt, keyOf, controlOf}
 use Rattle.transport.specs.Segments.{formatAt, numberAt, segmentAt, dataAt, dataFrameOf}
 use Rattle.receiver.specs.declared.Receiver.{Receiver}
 use Rattle.receiver.specs.declared.answer.Answer.{Answer}
 use Rattle.receiver.specs.declared.answer.Answer.the-variants as answer
-use Rattle.receiver.specs.Calls.{Outcome, answered, refused, onVerdict, groupsStep, controlStep, onControl, onData, segmentStep}
+use Rattle.receiver.specs.Calls.{Outcome, answered, refused, onVerdict, groupsStep, controlStep, onControl, onData}
 use Rattle.isolation.specs.Rules as R
-use Rattle.isolation.specs.Rules.{Values, keyAt, frameKey, Body, announce, segment, status, abort, controlBody, dataBody, bodyOf}
+use Rattle.isolation.specs.Rules.{Values, keyAt, frameKey, Body, segment, controlBody, dataBody, bodyOf}
 use Rattle.isolation.specs.Observe.{touches}
-use Rattle.isolation.proofs.Tests.{or-false, clash, and-left, and-right, both, or-either, same-test}
-use Rattle.isolation.proofs.Slots.{Small, key-of, keyNumber}
+use Rattle.isolation.proofs.Tests.{and-left, and-right, both, same-test}
+use Rattle.isolation.proofs.Slots.{key-of}
 use Rattle.isolation.proofs.Single.{Mine, bodyStep, Reads}
 
 -- numbers of refusals that end no session and have nothing to do with bounds

@@ -1,14 +1,14 @@
 -- What a refusal changes: 01, "Numbered refusals".
-use Prim.Native.Nat.{ℕ, zero, suc, _+_, _<_}
-use mathlib.Core.Path.{_≡_, refl, sym, ap, ap₂, _∙_, subst}
+use Prim.Native.Nat.{ℕ, zero, suc}
+use mathlib.Core.Path.{_≡_, refl, sym, ap, _∙_, subst}
 use mathlib.Core.Logic.{_⊎_, inl, inr}
-use mathlib.Core.Bool.{Bool, true, false, cond, not, _&&_, _||_}
+use mathlib.Core.Bool.{Bool, true, false, cond, not, _||_}
 use mathlib.Core.Option.{Option, none, some}
-use mathlib.Core.List.{List, [], _∷_, map}
+use mathlib.Core.List.{List, map}
 use native.Mathlib.Omega.{arith}
 use lib.Dec.{eqb, ltb}
 use lib.ListN.{length, getD, replicate, List·getD-map}
-use borrow.Author.Tests.{eqb-true, eq-eqb, ltb-false}
+use borrow.Author.Tests.{eq-eqb}
 use Rattle.frame.specs.Refusals.{numberOf}
 use Rattle.frame.specs.Pgn.{pgnOk}
 use Rattle.frame.specs.declared.Address.{Address}
@@ -21,9 +21,7 @@ use Rattle.transport.specs.declared.control.Status.{Status}
 use Rattle.transport.specs.declared.segment.Segment.{Segment}
 use Rattle.session.specs.declared.Session.{Session}
 use Rattle.session.specs.Announcements.{isRts, misdirected, badNumbers, formOf, sessionOf, firstCts}
-use Rattle.session.specs.declared.announcement.Form.{Form}
 use Rattle.session.specs.declared.announcement.Form.the-variants as form
-use Rattle.session.specs.declared.segment.Judged.{Judged}
 use Rattle.session.specs.declared.segment.Judged.the-variants as judged
 use Rattle.session.specs.Segments.{dueOf, judgedOf, ctsDue, nextCts, advancedBy}
 use Rattle.session.specs.Ends.{statusMatches, isIdle}
@@ -35,8 +33,6 @@ use Rattle.receiver.specs.declared.slot.Found.{Found}
 use Rattle.receiver.specs.declared.slot.Found.the-variants.{At, Nothing}
 use Rattle.receiver.specs.declared.answer.Answer.{Answer}
 use Rattle.receiver.specs.declared.answer.Answer.the-variants as answer
-use Rattle.receiver.specs.declared.answer.Opening.{Opening}
-use Rattle.receiver.specs.declared.answer.Stepped.{Stepped}
 use Rattle.receiver.specs.declared.answer.Opening.the-variants.{Accepted}
 use Rattle.receiver.specs.declared.answer.Opening.the-variants as opening
 use Rattle.receiver.specs.declared.answer.End.{End}
@@ -45,14 +41,14 @@ use Rattle.receiver.specs.declared.answer.SlotEnd.{SlotEnd}
 use Rattle.receiver.specs.declared.answer.Kept.the-variants as kept
 use Rattle.receiver.specs.declared.answer.Elapsed.{Elapsed}
 use Rattle.receiver.specs.Slots.{keyPlace, firstFree, freeSlot, onFound, onState}
-use Rattle.receiver.specs.Bounds.{openingOk, slotsOk, inBounds, opened, openedWith}
+use Rattle.receiver.specs.Bounds.{openingOk, inBounds, opened}
 use Rattle.receiver.specs.Calls as C
 use Rattle.receiver.specs.Calls.{Outcome, answered, refused, withSlot, endingOf, rejected, openedIn, takeSlot, onForm, announceStep, onKey, statusStep, abortStep, onJudged, segmentOpen, segmentStep, isReady, onVerdict, frameAll, frameStep, frameStore, expired, expiredState, endOf, slotEnd, readingKept, readingStep, stays}
 use Rattle.receiver.specs.Answers.{answerNumber}
 use Rattle.isolation.specs.Rules.{keyAt, frameKey, Body, announce, segment, status, abort, bodyOf}
 use Rattle.isolation.proofs.Slots.{at}
-use Rattle.isolation.proofs.Single.{bodyStep, Reads}
-use Rattle.isolation.proofs.Read.{mild, Foreign, Takes, Agrees, frame-agrees}
+use Rattle.isolation.proofs.Single.{bodyStep}
+use Rattle.isolation.proofs.Read.{mild, Takes, frame-agrees}
 use Rattle.isolation.proofs.Tests.{clash, both, and-false}
 
 -- the session of key κ ends with 19 or 21; no other slot and no byte changes

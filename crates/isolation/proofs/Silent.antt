@@ -1,6 +1,6 @@
 -- One session at a reading keeps step with its rules.
-use Prim.Native.Nat.{ℕ, zero, suc}
-use mathlib.Core.Path.{_≡_, refl, sym, ap, _∙_, subst}
+use Prim.Native.Nat.{ℕ}
+use mathlib.Core.Path.{_≡_, refl, ap}
 use mathlib.Core.Bool.{Bool, true, false, cond}
 use mathlib.Core.Option.{Option, none, some}
 use mathlib.Core.List.{List, [], _∷_}
@@ -17,12 +17,12 @@ use Rattle.receiver.specs.Calls as C
 use Rattle.receiver.specs.Calls.{expiredState, endOf}
 use Rattle.receiver.specs.Answers.{abortFor}
 use Rattle.isolation.specs.Rules as R
-use Rattle.isolation.specs.Rules.{Values, keyAt, Open, Reply, ending, judgedAt, endsAt, isSilent, since}
+use Rattle.isolation.specs.Rules.{Values, keyAt, Open, Reply, ending, judgedAt, endsAt, isSilent}
 use Rattle.isolation.specs.Observe.{endReply, endingOf}
 use Rattle.isolation.proofs.Tests.{clash}
-use Rattle.isolation.proofs.Slots.{holds, own-key, holds-one, open-key}
+use Rattle.isolation.proofs.Slots.{holds, own-key, holds-one}
 use Rattle.isolation.proofs.Same.{kind-same, since-same}
-use Rattle.isolation.proofs.Fit.{recordOf, Rel, Ses, wire-cond}
+use Rattle.isolation.proofs.Fit.{recordOf, Ses, wire-cond}
 
 pub ses-holds : (v : Values) (k : ℕ) (s : Session) (p : List ℕ) (y : Option Open) → Ses v k (is.Open s) p y → holds k (is.Open s) ≡ true
 unfolding holds

@@ -1,21 +1,19 @@
 -- One session keeps step with its rules. Only this file knows what a session does.
-use Prim.Native.Nat.{ℕ, zero, suc, _+_, _*_, _-_, _/_, _%_, _≤_, _<_, min}
+use Prim.Native.Nat.{ℕ, suc, _+_, _*_, _-_, _/_, _≤_, _<_}
 use mathlib.Core.Path.{_≡_, refl, sym, ap, ap₂, _∙_, subst}
 use mathlib.Core.Logic.{_⊎_, inl, inr}
 use mathlib.Core.Bool.{Bool, true, false, cond, not, _&&_, _||_}
 use mathlib.Core.Option.{Option, none, some}
-use mathlib.Core.List.{List, [], _∷_, _++_}
+use mathlib.Core.List.{List, [], _∷_}
 use native.Mathlib.Omega.{arith}
 use native.Mathlib.Numerals.{add-one}
 use lib.Dec.{eqb, leb, ltb}
-use lib.ListN.{length, getD, take, drop, length-drop}
-use lib.Seq.{paste}
-use borrow.Author.Tests.{ltb-true, ltb-false, eqb-true, eqb-false, eq-eqb, ne-eqb, not-false, not-true, le-leb, leb-true, lt-ltb}
+use lib.ListN.{length, take}
+use borrow.Author.Tests.{ltb-false, eqb-true, eqb-false, not-false, le-leb}
 use Rattle.laws.specs.Choice.{all-of}
 use Rattle.frame.specs.Refusals.{numberOf}
-use Rattle.frame.specs.declared.Address.{Address}
 use Rattle.frame.specs.declared.refusal.Refusal.{Refusal}
-use Rattle.frame.specs.declared.refusal.Refusal.the-variants.{PgnForm, AnnouncementForm, TooLong, Assurance, KeyOpen, SlotsFull, KeyNotOpen, FormatIndicator, AlreadyTaken, OutOfSequence, SegmentCut, StatusMismatch, Silence}
+use Rattle.frame.specs.declared.refusal.Refusal.the-variants.{PgnForm, AnnouncementForm, TooLong, Assurance, KeyOpen, SlotsFull, KeyNotOpen, FormatIndicator, AlreadyTaken, OutOfSequence, SegmentCut, StatusMismatch}
 use Rattle.frame.specs.Pgn.{pgnOk}
 use Rattle.transport.specs.declared.Key.{Key}
 use Rattle.transport.specs.declared.Kind.{Kind}
@@ -23,42 +21,33 @@ use Rattle.transport.specs.declared.Kind.the-variants.{Rts, Bam}
 use Rattle.transport.specs.declared.control.Announcement.{Announcement}
 use Rattle.transport.specs.declared.control.Status.{Status}
 use Rattle.transport.specs.declared.segment.Segment.{Segment}
-use Rattle.transport.specs.declared.response.Response.{Response}
 use Rattle.transport.specs.Segments.{dataAt}
 use Rattle.session.specs.declared.Session.{Session}
-use Rattle.session.specs.declared.announcement.Form.{Form}
-use Rattle.session.specs.declared.announcement.Form.the-variants as form
-use Rattle.session.specs.declared.segment.Judged.{Judged}
 use Rattle.session.specs.declared.segment.Judged.the-variants as judged
 use Rattle.session.specs.Announcements as S
-use Rattle.session.specs.Announcements.{formOf, sessionOf, firstCts, firstGranted, grantOf}
-use Rattle.session.specs.Segments.{dueOf, judgedOf, ctsDue, nextCts, nextCount, advancedBy}
-use Rattle.session.specs.Ends.{statusMatches, isIdle}
+use Rattle.session.specs.Announcements.{formOf, sessionOf, firstCts}
+use Rattle.session.specs.Segments.{dueOf, judgedOf, ctsDue, nextCts, advancedBy}
+use Rattle.session.specs.Ends.{statusMatches}
 use Rattle.receiver.specs.declared.Receiver.{Receiver}
-use Rattle.receiver.specs.declared.slot.Slot.{Slot}
-use Rattle.receiver.specs.declared.slot.SlotState.{SlotState}
 use Rattle.receiver.specs.declared.slot.SlotState.the-variants as is
 use Rattle.receiver.specs.declared.slot.Found.{Found}
 use Rattle.receiver.specs.declared.slot.Found.the-variants.{At, Nothing}
-use Rattle.receiver.specs.declared.answer.Answer.{Answer}
 use Rattle.receiver.specs.declared.answer.Answer.the-variants as answer
-use Rattle.receiver.specs.declared.answer.End.the-variants as end
-use Rattle.receiver.specs.declared.answer.Stepped.{Stepped}
-use Rattle.receiver.specs.Slots.{keyPlace, firstFree, onFound, onState, freeSlot}
+use Rattle.receiver.specs.Slots.{keyPlace, firstFree, onFound}
 use Rattle.receiver.specs.Bounds.{keyOk}
 use Rattle.receiver.specs.Calls as C
-use Rattle.receiver.specs.Calls.{Outcome, answered, refused, withSlot, endingOf, rejected, openedIn, takeSlot, onForm, announceStep, messageOf, onKey, statusStep, abortStep, stored, onJudged, segmentStep, expiredState, endOf}
-use Rattle.receiver.specs.Answers.{wireOf, messageBytes, abortFor, eomaFor}
+use Rattle.receiver.specs.Calls.{Outcome, answered, refused, withSlot, rejected, openedIn, takeSlot, announceStep, messageOf, statusStep, abortStep, stored, segmentStep}
+use Rattle.receiver.specs.Answers.{messageBytes, abortFor, eomaFor}
 use Rattle.isolation.specs.Rules as R
-use Rattle.isolation.specs.Rules.{Values, keyAt, Body, announce, segment, status, abort, Open, Out, Reply, Piece, reject, refuse, ending, cts, plain, sent, handOver, handed, closes, opens, announced, grant, due, spent, adds, asAnnounced, rule, ifOpen, joined, isOpen, isTaken, judgedAt, endsAt, isSilent, since}
-use Rattle.isolation.specs.Observe.{saysOf, replyOf, touches, endReply}
-use Rattle.isolation.proofs.Tests.{or-false, clash, or-left, or-right, and-left, and-right, both, or-1, or-2, or-either}
-use Rattle.isolation.proofs.Slots.{Slots, at, holds, other-key, own-key}
-use Rattle.isolation.proofs.Bytes.{part, Within, within-self, length-part, take-part, part-paste, within-paste}
-use Rattle.isolation.proofs.Same.{kind-same, grant-same, due-same, numbers-same, misdirected-same, since-same, eqb-next, and-assoc}
-use Rattle.isolation.proofs.Pieces.{window, cut, length-cut, segment-inside, taken-same, joined-cut, cut-next}
+use Rattle.isolation.specs.Rules.{Values, keyAt, Body, announce, segment, status, abort, Open, Piece, reject, refuse, ending, cts, plain, sent, handOver, handed, closes, opens, announced, grant, due, spent, adds, asAnnounced, rule, joined, isOpen, isTaken}
+use Rattle.isolation.specs.Observe.{saysOf, replyOf, touches}
+use Rattle.isolation.proofs.Tests.{clash, or-left, or-right, and-left, or-either}
+use Rattle.isolation.proofs.Slots.{at, other-key}
+use Rattle.isolation.proofs.Bytes.{part, within-self, length-part, take-part, part-paste, within-paste}
+use Rattle.isolation.proofs.Same.{kind-same, grant-same, due-same, numbers-same, misdirected-same, eqb-next, and-assoc}
+use Rattle.isolation.proofs.Pieces.{cut, segment-inside, taken-same, joined-cut, cut-next}
 use Rattle.isolation.proofs.Sound.{Ok, grantsOk, grants-first, grants-next}
-use Rattle.isolation.proofs.Fit.{recordOf, Rel, Ses, Place, Moves, Stays, Fit, fit-cond, fit-step, fit-reply, fit-form, fit-judged, reply-cond, quiet-cond, wire-cond}
+use Rattle.isolation.proofs.Fit.{recordOf, Rel, Place, Fit, fit-cond, fit-step, fit-reply, fit-form, fit-judged, reply-cond, quiet-cond, wire-cond}
 
 -- an own frame's key: addresses that are taken here
 pub record Mine (v : Values) (k : ℕ) : Type 0 where

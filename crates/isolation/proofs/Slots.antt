@@ -1,12 +1,12 @@
 -- The slots as a list: what the searches find.
-use Prim.Native.Nat.{ℕ, zero, suc, _+_, _*_, _/_, _%_, _≤_, _<_, zero-le, suc-le-suc}
-use mathlib.Core.Path.{_≡_, refl, sym, ap, _∙_, subst}
+use Prim.Native.Nat.{ℕ, zero, suc, _+_, _*_, _<_, suc-le-suc}
+use mathlib.Core.Path.{_≡_, refl, sym, ap, _∙_}
 use mathlib.Core.Logic.{_⊎_, inl, inr}
-use mathlib.Core.Bool.{Bool, true, false, cond, not, _&&_, _||_}
+use mathlib.Core.Bool.{Bool, true, false, cond, _&&_}
 use mathlib.Core.List.{List, [], _∷_}
 use native.Mathlib.Omega.{arith}
 use lib.Dec.{eqb}
-use lib.ListN.{length, getD, set, replicate}
+use lib.ListN.{length, getD}
 use borrow.Author.Tests.{eqb-true, eq-eqb}
 use Rattle.transport.specs.declared.Key.{Key}
 use Rattle.session.specs.declared.Session.{Session}
@@ -17,6 +17,7 @@ use Rattle.receiver.specs.declared.slot.Found.{Found}
 use Rattle.receiver.specs.declared.slot.Found.the-variants.{At, Nothing}
 use Rattle.receiver.specs.Slots.{sameKey, freeState, isFree, stateHolds, holdsKey, firstAt, firstFree, keyPlace, freeSlot}
 use Rattle.isolation.specs.Rules.{keyAt}
+use Rattle.isolation.specs.Observe.{openAt}
 use Rattle.isolation.proofs.Tests.{or-false, clash, and-left, and-right, both, same-test}
 
 abbrev pub Slots : Type 0
@@ -27,7 +28,13 @@ at l i = getD l i freeSlot .state
 
 -- a slot holds key k
 unfoldable pub holds : ℕ → SlotState → Bool
-holds k x = stateHolds (keyAt k) x
+holds k x = openAt k x
+
+-- as the receiver tests it
+pub holds-same : (k : ℕ) (x : SlotState) → stateHolds (keyAt k) x ≡ holds k x
+unfolding holds
+holds-same k Free = refl
+holds-same k (Open s) = refl
 
 -- ---- keys and their numbers
 
@@ -140,12 +147,11 @@ module _ (p : Slot → Bool) where
       rw z (r .2, r .3)
 
 pub find-some : (k : ℕ) (l : Slots) (i : ℕ) → keyPlace (keyAt k) l ≡ At i → (holds k (at l i) ≡ true) × (i < length l)
-unfolding holds
-find-some k l i e = first-some (holdsKey (keyAt k)) l i e
+find-some k l i e = let r = first-some (holdsKey (keyAt k)) l i e in (sym (holds-same k (at l i)) ∙ r .0, r .1)
 
 pub find-none : (k : ℕ) (l : Slots) → keyPlace (keyAt k) l ≡ Nothing → (i : ℕ) → holds k (at l i) ≡ false
 find-none k l e i =
-    or-false (holds k (at l i)) (λ t. clash (holds k (at l i)) t (unfold holds in (from-none (holdsKey (keyAt k)) l 0 e i (holds-inside k l i t))))
+    or-false (holds k (at l i)) (λ t. clash (holds k (at l i)) t (sym (holds-same k (at l i)) ∙ from-none (holdsKey (keyAt k)) l 0 e i (holds-inside k l i t)))
 
 pub lowest-some : (l : Slots) (i : ℕ) → firstFree l ≡ At i → (at l i ≡ Free) × (i < length l)
 lowest-some l i e = let r = first-some isFree l i e in (free (at l i) (r .0), r .1)

@@ -1,17 +1,15 @@
 -- What a session in bounds is, as facts.
-use Prim.Native.Nat.{ℕ, zero, suc, _+_, _*_, _-_, _/_, _≤_, _<_, min}
-use mathlib.Core.Path.{_≡_, refl, sym, ap, ap₂, _∙_, subst}
+use Prim.Native.Nat.{ℕ, _+_, _-_, _/_, _≤_, _<_, min}
+use mathlib.Core.Path.{_≡_, refl}
 use mathlib.Core.Logic.{_⊎_, inl, inr}
 use mathlib.Core.Bool.{Bool, true, false, cond, not, _&&_, _||_}
 use mathlib.Core.List.{List, [], _∷_}
 use native.Mathlib.Omega.{arith}
 use lib.Dec.{eqb, leb, ltb}
-use borrow.Author.Tests.{ltb-true, ltb-false, eqb-true, eqb-false, eq-eqb, ne-eqb, not-false, not-true, le-leb, leb-true, leb-false, lt-ltb}
+use borrow.Author.Tests.{ltb-true, ltb-false, eqb-true, eqb-false, eq-eqb, le-leb, leb-true}
 use Rattle.laws.specs.Choice.{each-of, all-of}
 use Rattle.frame.specs.declared.Address.{Address}
 use Rattle.frame.specs.Pgn.{pgnOk}
-use Rattle.transport.specs.declared.Kind.{Kind}
-use Rattle.transport.specs.declared.Kind.the-variants.{Rts, Bam}
 use Rattle.session.specs.declared.Session.{Session}
 use Rattle.session.specs.Announcements.{isRts, grantOf}
 use Rattle.receiver.specs.Bounds.{announcedOk, keyOk, progressOk, sessionOk}

@@ -1,10 +1,8 @@
 -- P8 to P12 of document 01's table, on the definitions of the calls.
-use Prim.Native.Nat.{ℕ, zero, suc, _+_, _-_}
+use Prim.Native.Nat.{ℕ, zero, suc, _+_}
 use mathlib.Core.Path.{_≡_, refl}
-use mathlib.Core.Bool.{Bool, true, false}
 use mathlib.Core.List.{List, [], _∷_, _++_}
-use lib.ListN.{length, replicate}
-use Rattle.frame.specs.declared.Address.{Address}
+use lib.ListN.{replicate}
 use Rattle.frame.specs.declared.refusal.Refusal.the-variants.{AnnouncementForm, TooLong, Silence}
 use Rattle.frame.specs.Judge.{judged, byFormat}
 use Rattle.transport.specs.declared.Key.{Key}

@@ -4,26 +4,41 @@ use mathlib.Core.Bool.{Bool, true, false, cond, not, _&&_, _||_}
 use mathlib.Core.Option.{Option, none, some}
 use mathlib.Core.List.{List, [], _∷_, _++_, map}
 use lib.Dec.{eqb}
-use lib.ListN.{length}
 use Rattle.frame.specs.Refusals.{numberOf}
-use Rattle.frame.specs.declared.refusal.Refusal.{Refusal}
+use Rattle.transport.specs.declared.Key.{Key}
 use Rattle.receiver.specs.declared.Receiver.{Receiver}
+use Rattle.receiver.specs.declared.slot.Slot.{Slot}
+use Rattle.receiver.specs.declared.slot.SlotState.{SlotState}
+use Rattle.receiver.specs.declared.slot.SlotState.the-variants as slot
 use Rattle.receiver.specs.declared.answer.Ending.{Ending}
 use Rattle.receiver.specs.declared.answer.Answer.{Answer}
 use Rattle.receiver.specs.declared.answer.Answer.the-variants.{Groups, Opened, Taken, Grant, HandedOver, Aborted, Ended, RefusedRts, Refused}
-use Rattle.receiver.specs.declared.answer.Stepped.{Stepped}
 use Rattle.receiver.specs.declared.answer.End.{End}
 use Rattle.receiver.specs.declared.answer.End.the-variants as end
 use Rattle.receiver.specs.declared.answer.SlotEnd.{SlotEnd}
 use Rattle.receiver.specs.declared.answer.Kept.{Kept}
 use Rattle.receiver.specs.declared.answer.Kept.the-variants as kept
 use Rattle.receiver.specs.declared.answer.Elapsed.{Elapsed}
-use Rattle.receiver.specs.Slots.{sameKey}
-use Rattle.receiver.specs.Bounds.{anyHolds}
 use Rattle.receiver.specs.Calls.{Outcome, frameAll, readingStep}
 use Rattle.receiver.specs.Answers.{answerNumber, answerSends, endSends, wireOf, messageBytes}
 use Rattle.isolation.specs.Rules.{Values, keyAt, frameKey, Body, bodyOf, Reply, Says, nothing, opened, took, granted, handed, aborted, ended, rejected, Seen, answer, reading, stray}
-use Rattle.isolation.specs.World.{Event, frame, clock, Call, lent, elsewhere}
+use Rattle.isolation.specs.World.{frame, clock, Call, lent, elsewhere}
+
+-- ---- keys
+
+-- the key of number k: SA, DA and session number, all three
+abbrev pub isKey : ℕ → Key → Bool
+isKey k κ =
+    eqb (κ .sa .0) (keyAt k .sa .0) && eqb (κ .da .0) (keyAt k .da .0) && eqb (κ .session .0) (keyAt k .session .0)
+
+abbrev pub openAt : ℕ → SlotState → Bool
+openAt k slot.Free = false
+openAt k (slot.Open s) = isKey k (s .key)
+
+-- some slot has the key open
+unfoldable pub openIn : ℕ → List Slot → Bool
+openIn k [] = false
+openIn k (s ∷ ss) = openAt k (s .state) || openIn k ss
 
 -- ---- answers
 
@@ -48,14 +63,11 @@ touches k Groups = false
 touches k (Opened j) = false
 touches k (Taken t) = false
 touches k (Grant c) = false
-touches k (HandedOver x) = sameKey (x .key) (keyAt k)
-touches k (Aborted j) = sameKey j (keyAt k)
-touches k (Ended e) = sameKey (e .key) (keyAt k)
+touches k (HandedOver x) = isKey k (x .key)
+touches k (Aborted j) = isKey k j
+touches k (Ended e) = isKey k (e .key)
 touches k (RefusedRts j) = false
 touches k (Refused n) = false
-
-unfoldable pub isOpenIn : ℕ → Receiver → Bool
-isOpenIn k r = anyHolds (keyAt k) (r .slots)
 
 -- ---- a frame
 
@@ -69,7 +81,7 @@ isOwn v k id d = isBody (bodyOf (v .own) id d) && eqb (frameKey id d) k
 
 -- the key is open in the record before a call, and not in the record after it
 unfoldable pub lost : ℕ → Receiver → Receiver → Bool
-lost k r r′ = isOpenIn k r && not (isOpenIn k r′)
+lost k r r′ = openIn k (r .slots) && not (openIn k (r′ .slots))
 
 -- a frame that is not the key's own shows only that it ended the key's session or handed over for it: by the answer, or by the records
 unfoldable pub strays : ℕ → Receiver → Outcome → List Seen
@@ -93,7 +105,7 @@ endReply e =
 -- the endings of key k, of one slot and of all
 unfoldable pub endingOf : ℕ → End → List Reply
 endingOf k end.Stays = []
-endingOf k (end.Ended e) = cond (sameKey (e .key) (keyAt k)) (endReply e ∷ []) []
+endingOf k (end.Ended e) = cond (isKey k (e .key)) (endReply e ∷ []) []
 
 unfoldable pub endingsOf : ℕ → List SlotEnd → List Reply
 endingsOf k [] = []
