@@ -16,3 +16,4 @@ pub mod Demand3
 pub mod Refused
 pub mod Message
 pub mod Table
+pub mod WholeCase
