@@ -1,0 +1,87 @@
+-- The rules' own tests and counts are the receiver's.
+use Prim.Native.Nat.{ℕ, _+_, _*_, _-_, _/_, _%_, _≤_, _<_, min}
+use mathlib.Core.Path.{_≡_, refl}
+use mathlib.Core.Logic.{_⊎_, inl, inr}
+use mathlib.Core.Bool.{Bool, true, false, cond, not, _&&_, _||_}
+use native.Mathlib.Omega.{arith}
+use lib.Dec.{eqb, leb}
+use borrow.Author.Tests.{eqb-true, eqb-false, eq-eqb, ne-eqb, leb-true, leb-false}
+use Rattle.frame.specs.declared.Address.{Address}
+use Rattle.transport.specs.declared.Kind.{Kind}
+use Rattle.transport.specs.declared.Kind.the-variants.{Rts, Bam}
+use Rattle.transport.specs.declared.control.Announcement.{Announcement}
+use Rattle.session.specs.Announcements as S
+use Rattle.session.specs.Segments.{dueOf}
+use Rattle.session.specs.Ends.{elapsed}
+use Rattle.isolation.specs.Rules as R
+use Rattle.isolation.specs.Rules.{keyAt}
+use Rattle.isolation.proofs.Tests.{or-either, same-test}
+
+pub kind-same : (κ : Kind) → R.isRts κ ≡ S.isRts κ
+unfolding R.isRts
+kind-same Rts = refl
+kind-same Bam = refl
+
+least-is : (a b : ℕ) (t : Bool) → leb a b ≡ t → cond t a b ≡ min a b
+least-is a b true e = let h : a ≤ b = leb-true a b e in omega arith
+least-is a b false e = let h : b < a = leb-false a b e in omega arith
+
+pub least-same : (a b : ℕ) → R.least a b ≡ min a b
+unfolding R.least
+least-same a b = least-is a b (leb a b) refl
+
+pub grant-same : (max left : ℕ) → R.grant max left ≡ S.grantOf max left
+unfolding R.grant S.grantOf
+grant-same max left = rw (least-same max 16) (least-same (min max 16) left)
+
+due-is : (total n : ℕ) → 1 ≤ n → (t : Bool) → leb (60 * n) total ≡ t → cond t 60 (total - 60 * (n - 1)) ≡ min 60 (total - 60 * (n - 1))
+due-is total n l true e = let h : 60 * n ≤ total = leb-true (60 * n) total e in omega arith
+due-is total n l false e = let h : total < 60 * n = leb-false (60 * n) total e in omega arith
+
+pub due-same : (total n : ℕ) → 1 ≤ n → R.due total n ≡ dueOf total n
+unfolding R.due dueOf
+due-same total n l = due-is total n l (leb (60 * n) total) refl
+
+sixties-is : (n : ℕ) (t : Bool) → eqb (n % 60) 0 ≡ t → cond t (n / 60) (n / 60 + 1) ≡ (n + 59) / 60
+sixties-is n true e = let h : n % 60 ≡ 0 = eqb-true (n % 60) 0 e in omega arith
+sixties-is n false e = let h : n % 60 ≡ 0 → ⊥ = eqb-false (n % 60) 0 e in omega arith
+
+pub sixties-same : (n : ℕ) → R.sixties n ≡ (n + 59) / 60
+unfolding R.sixties
+sixties-same n = sixties-is n (eqb (n % 60) 0) refl
+
+or-assoc : (a b c : Bool) → (a || (b || c)) ≡ ((a || b) || c)
+or-assoc true b c = refl
+or-assoc false b c = refl
+
+pub and-assoc : (a b c : Bool) → (a && (b && c)) ≡ ((a && b) && c)
+and-assoc true b c = refl
+and-assoc false b c = refl
+
+pub numbers-same : (a : Announcement) → R.badNumbers a ≡ S.badNumbers a
+unfolding R.badNumbers
+numbers-same a = rw (sixties-same (a .total .0), kind-same (a .kind)) (or-assoc (eqb (a .total .0) 0) (not (eqb (a .segments .0) ((a .total .0 + 59) / 60))) (S.isRts (a .kind) && eqb (a .max) 0))
+
+-- a frame that is taken goes to the own address or to 255
+pub misdirected-same : (own : Address) (k : ℕ) (κ : Kind) → own .0 ≤ 253 → (eqb (keyAt k .da .0) (own .0) || eqb (keyAt k .da .0) 255) ≡ true
+    → R.misdirected own k κ ≡ S.misdirected (keyAt k .da) κ
+unfolding R.misdirected
+misdirected-same own k Rts h e = refl
+misdirected-same own k Bam h e = go (or-either (eqb (keyAt k .da .0) (own .0)) (eqb (keyAt k .da .0) 255) e)
+  where
+    go : (eqb (keyAt k .da .0) (own .0) ≡ true) ⊎ (eqb (keyAt k .da .0) 255 ≡ true) → eqb (keyAt k .da .0) (own .0) ≡ not (eqb (keyAt k .da .0) 255)
+    go (inl f) =
+        let z : keyAt k .da .0 ≡ own .0 = eqb-true (keyAt k .da .0) (own .0) f in
+        rw (f, ne-eqb (keyAt k .da .0) 255 (λ y. omega arith))
+    go (inr f) =
+        let z : keyAt k .da .0 ≡ 255 = eqb-true (keyAt k .da .0) 255 f in
+        rw (f, ne-eqb (keyAt k .da .0) (own .0) (λ y. omega arith))
+
+pub since-same : (mark t : ℕ) → R.since mark t ≡ elapsed mark t
+unfolding R.since elapsed
+since-same mark t = refl
+
+pub eqb-next : (a b : ℕ) → eqb a b ≡ eqb (a + 1) (b + 1)
+eqb-next a b = same-test (eqb a b) (eqb (a + 1) (b + 1))
+    (λ e. let z : a ≡ b = eqb-true a b e in eq-eqb (a + 1) (b + 1) (omega arith))
+    (λ e. let z : a + 1 ≡ b + 1 = eqb-true (a + 1) (b + 1) e in eq-eqb a b (omega arith))

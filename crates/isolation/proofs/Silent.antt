@@ -1,0 +1,85 @@
+-- One session at a reading keeps step with its rules.
+use Prim.Native.Nat.{ℕ}
+use mathlib.Core.Path.{_≡_, refl, ap}
+use mathlib.Core.Bool.{Bool, true, false, cond}
+use mathlib.Core.Option.{Option, none, some}
+use mathlib.Core.List.{List, [], _∷_}
+use lib.Dec.{leb}
+use Rattle.frame.specs.declared.refusal.Refusal.the-variants.{Silence}
+use Rattle.session.specs.declared.Session.{Session}
+use Rattle.session.specs.Announcements as S
+use Rattle.session.specs.Ends.{elapsed}
+use Rattle.slots.specs.declared.SlotState.{SlotState}
+use Rattle.slots.specs.declared.SlotState.the-variants as is
+use Rattle.receiver.specs.declared.answer.End.the-variants as end
+use Rattle.slots.specs.Slots.{sameKey}
+use Rattle.receiver.specs.Calls as C
+use Rattle.receiver.specs.Calls.{expiredState, endOf}
+use Rattle.receiver.specs.Answers.{abortFor}
+use Rattle.isolation.specs.Rules as R
+use Rattle.isolation.specs.Rules.{Values, keyAt, Open, Reply, ending, judgedAt, endsAt, isSilent}
+use Rattle.isolation.specs.Observe.{endReply, endingOf}
+use Rattle.isolation.proofs.Tests.{clash}
+use Rattle.isolation.proofs.Slots.{holds, own-key, holds-one}
+use Rattle.isolation.proofs.Same.{kind-same, since-same}
+use Rattle.isolation.proofs.Fit.{recordOf, Ses, wire-cond}
+
+pub ses-holds : (v : Values) (k : ℕ) (s : Session) (p : List ℕ) (y : Option Open) → Ses v k (is.Open s) p y → holds k (is.Open s) ≡ true
+unfolding holds
+ses-holds v k s p none m = absurd m
+ses-holds v k s p (some ρ) m = rw (m .0) (own-key k)
+
+pub ses-key : (v : Values) (k : ℕ) (x : SlotState) (p : List ℕ) (y : Option Open) → Ses v k x p y → (j : ℕ) → holds j x ≡ true → j ≡ k
+ses-key v k is.Free p y m j e = unfold holds in (absurd (clash false e refl))
+ses-key v k (is.Open s) p y m j e = holds-one j k (is.Open s) e (ses-holds v k s p y m)
+
+pub ses-shut : (v : Values) (k : ℕ) (x : SlotState) (p : List ℕ) (y : Option Open) → Ses v k x p y → holds k x ≡ false → (x ≡ is.Free) × (y ≡ none)
+ses-shut v k is.Free p none m e = (refl, refl)
+ses-shut v k is.Free p (some ρ) m e = absurd m
+ses-shut v k (is.Open s) p y m e = absurd (clash (holds k (is.Open s)) (ses-holds v k s p y m) e)
+
+pub expire-ses : (v : Values) (t k : ℕ) (x : SlotState) (p : List ℕ) (y : Option Open) → Ses v k x p y → Ses v k (expiredState (v .limit) t x) p (judgedAt v t y)
+unfolding judgedAt isSilent
+expire-ses v t k is.Free p none m = tt
+expire-ses v t k is.Free p (some ρ) m = absurd m
+expire-ses v t k (is.Open s) p none m = absurd m
+expire-ses v t k (is.Open s) p (some ρ) m = rw (m .0, since-same (ρ .mark) t) (go (leb (v .limit) (elapsed (ρ .mark) t)))
+  where
+    go : (b : Bool) → Ses v k (cond b is.Free (is.Open (recordOf k ρ))) p (cond b none (some ρ))
+    go true = tt
+    go false = (refl, m .1)
+
+pub expire-holds : (limit t k : ℕ) (x : SlotState) → holds k (expiredState limit t x) ≡ true → holds k x ≡ true
+unfolding holds
+expire-holds limit t k is.Free e = e
+expire-holds limit t k (is.Open s) e = go (leb limit (elapsed (s .mark) t)) e
+  where
+    go : (b : Bool) → holds k (cond b is.Free (is.Open s)) ≡ true → sameKey (s .key) (keyAt k) ≡ true
+    go true e = absurd (clash false e refl)
+    go false e = e
+
+end-same : (k : ℕ) (ρ : Open) → endReply (C.endingOf (recordOf k ρ) Silence) ≡ ending k (ρ .told) 22
+unfolding endReply ending
+end-same k ρ =
+    ap (λ (w : Option R.Wire). record { number = 22; says = R.ended (keyAt k) (ρ .told .kind) (ρ .told .pgn); sends = w })
+    (wire-cond (S.isRts (ρ .told .kind)) (R.isRts (ρ .told .kind)) (abortFor (keyAt k) Silence (ρ .told .pgn)) (kind-same (ρ .told .kind)))
+
+pub ends-own : (v : Values) (t k : ℕ) (x : SlotState) (p : List ℕ) (y : Option Open) → Ses v k x p y → endingOf k (endOf (v .limit) t x) ≡ endsAt v k t y
+unfolding endingOf endsAt isSilent
+ends-own v t k is.Free p none m = refl
+ends-own v t k is.Free p (some ρ) m = absurd m
+ends-own v t k (is.Open s) p none m = absurd m
+ends-own v t k (is.Open s) p (some ρ) m = rw (m .0, since-same (ρ .mark) t) (go (leb (v .limit) (elapsed (ρ .mark) t)))
+  where
+    go : (b : Bool) → endingOf k (cond b (end.Ended (C.endingOf (recordOf k ρ) Silence)) end.Stays) ≡ cond b (ending k (ρ .told) 22 ∷ []) []
+    go true = rw (own-key k) (ap (λ (e : Reply). e ∷ []) (end-same k ρ))
+    go false = refl
+
+pub ends-other : (limit t k : ℕ) (x : SlotState) → holds k x ≡ false → endingOf k (endOf limit t x) ≡ []
+unfolding endingOf holds
+ends-other limit t k is.Free e = refl
+ends-other limit t k (is.Open s) e = go (leb limit (elapsed (s .mark) t))
+  where
+    go : (b : Bool) → endingOf k (cond b (end.Ended (C.endingOf s Silence)) end.Stays) ≡ []
+    go true = rw e
+    go false = refl

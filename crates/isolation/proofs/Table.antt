@@ -1,0 +1,128 @@
+-- P8 to P12 of document 01's table, on the definitions of the calls.
+use Prim.Native.Nat.{ℕ, zero, suc, _+_}
+use mathlib.Core.Path.{_≡_, refl}
+use mathlib.Core.List.{List, [], _∷_, _++_}
+use lib.ListN.{replicate}
+use Rattle.frame.specs.declared.refusal.Refusal.the-variants.{AnnouncementForm, TooLong, Silence}
+use Rattle.frame.specs.Judge.{judged, byFormat}
+use Rattle.transport.specs.declared.Key.{Key}
+use Rattle.transport.specs.declared.Kind.the-variants.{Rts}
+use Rattle.transport.specs.Control.{controlOf}
+use Rattle.transport.specs.Segments.{dataFrameOf}
+use Rattle.session.specs.Announcements.{formOf, grantOf}
+use Rattle.session.specs.Segments.{dueOf, judgedOf}
+use Rattle.session.specs.Ends.{elapsed}
+use Rattle.session.specs.declared.Session.{Session}
+use Rattle.receiver.specs.declared.Receiver.{Receiver}
+use Rattle.slots.specs.declared.SlotState.the-variants as is
+use Rattle.receiver.specs.declared.answer.Answer.{Answer}
+use Rattle.receiver.specs.declared.answer.Answer.the-variants.{Groups, Opened, Taken, Grant, HandedOver, Aborted, Ended, RefusedRts, Refused}
+use Rattle.receiver.specs.declared.answer.End.the-variants as end
+use Rattle.slots.specs.Slots.{freeSlot}
+use Rattle.slots.specs.Bounds.{slotsOk}
+use Rattle.receiver.specs.Bounds.{inBounds, opened}
+use Rattle.receiver.specs.Calls.{Outcome, takeSlot, announceStep, controlStep, segmentOpen, segmentStep, frameAll, readingStep, stays, endingOf}
+use Rattle.receiver.specs.Answers.{answerNumber}
+
+-- own address 33, limit 1,250, reading 0; the RTS are session 3's, from SA 128, for PGN 65226
+r : Receiver
+r = opened (record { 0 = 33 }) 1250 0 .receiver
+
+m : List ℕ
+m = replicate 32768 0
+
+key : Key
+key = record { sa = record { 0 = 128 }; da = record { 0 = 33 }; session = record { 0 = 3 } }
+
+-- Total Bytes, segments: MAX 255, no assurance
+rts : ℕ → ℕ → ℕ → List ℕ
+rts low high segments = 0x30 ∷ low ∷ high ∷ 0 ∷ segments ∷ 0 ∷ 0 ∷ 255 ∷ 0 ∷ 0xCA ∷ 0xFE ∷ 0 ∷ []
+
+toRts : List ℕ → Answer
+toRts d = frameAll r 0x1C4D2180 d m .0 .answer
+
+-- 61 bytes, 2 segments: CTS 1, 2
+p8 : toRts (rts 61 0 2) ≡ Grant (record { key = key; next = record { 0 = 1 }; count = 2; pgn = 65226 })
+unfolding r m key rts toRts opened inBounds slotsOk frameAll judged byFormat controlStep controlOf announceStep formOf takeSlot grantOf
+p8 = refl
+
+-- 61 bytes, 1 segment: 11
+p9 : (toRts (rts 61 0 1) ≡ RefusedRts (record { key = key; refusal = AnnouncementForm; pgn = 65226 })) × (answerNumber (toRts (rts 61 0 1)) ≡ 11)
+unfolding r m key rts toRts opened inBounds slotsOk frameAll judged byFormat controlStep controlOf announceStep formOf takeSlot grantOf
+p9 = (refl, refl)
+
+-- 4,097 bytes, 69 segments: 12
+p11 : (toRts (rts 1 16 69) ≡ RefusedRts (record { key = key; refusal = TooLong; pgn = 65226 })) × (answerNumber (toRts (rts 1 16 69)) ≡ 12)
+unfolding r m key rts toRts opened inBounds slotsOk frameAll judged byFormat controlStep controlOf announceStep formOf takeSlot grantOf
+p11 = (refl, refl)
+
+-- ---- the grants of a whole message
+
+countOf : Answer → List ℕ
+countOf Groups = []
+countOf (Opened k) = []
+countOf (Taken t) = []
+countOf (Grant c) = c .count ∷ []
+countOf (HandedOver x) = []
+countOf (Aborted k) = []
+countOf (Ended e) = []
+countOf (RefusedRts j) = []
+countOf (Refused n) = []
+
+-- segment n, of 60 bytes
+dt : ℕ → List ℕ
+dt n = 0x30 ∷ n ∷ 0 ∷ 0 ∷ replicate 60 n
+
+-- the counts of the CTS that are sent while c segments come in, from segment n on
+grants : ℕ → ℕ → Receiver → List ℕ → List ℕ
+grants zero n r m = []
+grants (suc c) n r m =
+    let o : Outcome = frameAll r 0x1C4E2180 (dt n) m in
+    let rest : List ℕ = grants c (n + 1) (o .0 .next) (o .1) in
+    countOf (o .0 .answer) ++ rest
+
+allGrants : List ℕ → List ℕ
+allGrants d =
+    let o : Outcome = frameAll r 0x1C4D2180 d m in
+    countOf (o .0 .answer) ++ grants 69 1 (o .0 .next) (o .1)
+
+-- 4,096 bytes, 69 segments: grants 16, 16, 16, 16, 5
+p10 : allGrants (rts 0 16 69) ≡ 16 ∷ 16 ∷ 16 ∷ 16 ∷ 5 ∷ []
+unfolding r m key rts opened inBounds slotsOk frameAll judged byFormat controlStep controlOf announceStep formOf takeSlot grantOf allGrants grants countOf dt dataFrameOf segmentStep segmentOpen judgedOf dueOf
+p10 = refl
+
+-- ---- a clock that runs round: mark 4,294,967,290, limit 1,250
+
+session : Session
+session =
+    record {
+      key = key;
+      kind = Rts;
+      total = record { 0 = 61 };
+      segments = record { 0 = 2 };
+      max = 255;
+      pgn = 65226;
+      next = record { 0 = 1 };
+      granted = record { 0 = 2 };
+      mark = 4294967290;
+    }
+
+held : Receiver
+held =
+    record {
+      own = record { 0 = 33 };
+      limit = 1250;
+      last = 4294967290;
+      slots = record { state = is.Open session } ∷ replicate 7 freeSlot;
+    }
+
+-- reading 1,243: it stays
+p12-stays : (readingStep held 1243 m .ends ≡ replicate 8 stays) × (readingStep held 1243 m .next .slots ≡ held .slots)
+unfolding m key session held inBounds slotsOk readingStep elapsed
+p12-stays = (refl, refl)
+
+-- reading 1,244: it ends with 22
+p12-ends : (readingStep held 1244 m .ends ≡ record { end = end.Ended (endingOf session Silence) } ∷ replicate 7 stays)
+    × (readingStep held 1244 m .next .slots ≡ replicate 8 freeSlot)
+unfolding m key session held inBounds slotsOk readingStep elapsed
+p12-ends = (refl, refl)

@@ -1,0 +1,56 @@
+-- The whole case of document 01's "Program", as the theorem observes it for key 128, 33, 3.
+use Prim.Native.Nat.{ℕ, _+_, _*_}
+use mathlib.Core.Path.{_≡_, refl}
+use mathlib.Core.Option.{some}
+use mathlib.Core.List.{List, [], _∷_}
+use lib.ListN.{replicate}
+use Rattle.frame.specs.Judge.{judged, byFormat}
+use Rattle.multi_pg.specs.Groups as Groups
+use Rattle.transport.specs.declared.Kind.the-variants.{Rts}
+use Rattle.transport.specs.Control.{controlOf}
+use Rattle.transport.specs.Segments.{dataFrameOf}
+use Rattle.transport.specs.Responses.{responseBytes, replyId}
+use Rattle.transport.specs.Reasons.{reasonOf}
+use Rattle.session.specs.Announcements.{formOf, grantOf}
+use Rattle.session.specs.Segments.{dueOf, judgedOf}
+use Rattle.session.specs.Ends.{elapsed}
+use Rattle.receiver.specs.declared.answer.Opening.the-variants.{Accepted}
+use Rattle.slots.specs.Bounds.{slotsOk}
+use Rattle.receiver.specs.Bounds.{inBounds, opened}
+use Rattle.receiver.specs.Calls.{takeSlot, announceStep, controlStep, segmentOpen, segmentStep, frameAll, readingStep}
+use Rattle.isolation.specs.Rules.{Values, keyAt, answer, reading, granted, ended, frameKey, bodyOf, taken, controlBody, dataBody}
+use Rattle.isolation.specs.World.{Call, lent, frame, clock}
+use Rattle.isolation.specs.Observe.{observed, shows, recordAfter, storeAfter, frameSeen, isOwn, isBody, strays, lost, openIn, touches, replyOf, saysOf, readingSeen, keptNumber, endingsOf, endingOf}
+
+k : ℕ
+k = 128 * 4096 + 33 * 16 + 3
+
+calls : List Call
+calls =
+    lent (clock 0)
+    ∷ lent (frame 0x18252180 (0x40 ∷ 0xEA ∷ 0 ∷ 3 ∷ 0xCA ∷ 0xFE ∷ 0 ∷ []))
+    ∷ lent (frame 0x1C4D2180 (0x30 ∷ 61 ∷ 0 ∷ 0 ∷ 2 ∷ 0 ∷ 0 ∷ 255 ∷ 0 ∷ 0xCA ∷ 0xFE ∷ 0 ∷ []))
+    ∷ lent (frame 0x1C4E2180 (0x30 ∷ 2 ∷ 0 ∷ 0 ∷ 0x11 ∷ []))
+    ∷ []
+
+-- the opening is accepted, so the theorem speaks of it
+accepted : opened (record { 0 = 33 }) 1250 0 .answer ≡ Accepted
+unfolding opened
+accepted = refl
+
+-- the CTS and the Abort, with identifier and bytes
+whole-case : observed (record { own = record { 0 = 33 }; limit = 1250 }) k (opened (record { 0 = 33 }) 1250 0 .receiver) (replicate 32768 0) calls
+    ≡ reading 0 []
+    ∷ answer (record {
+      number = 0;
+      says = granted (keyAt k) 1 2 65226;
+      sends = some (0x1C4D8021, 0x31 ∷ 255 ∷ 255 ∷ 255 ∷ 1 ∷ 0 ∷ 0 ∷ 2 ∷ 0 ∷ 0xCA ∷ 0xFE ∷ 0 ∷ []);
+    })
+    ∷ answer (record {
+      number = 19;
+      says = ended (keyAt k) Rts 65226;
+      sends = some (0x1C4D8021, 0x3F ∷ 255 ∷ 255 ∷ 255 ∷ 255 ∷ 255 ∷ 255 ∷ 253 ∷ 7 ∷ 0xCA ∷ 0xFE ∷ 0 ∷ []);
+    })
+    ∷ []
+unfolding opened inBounds slotsOk frameAll judged byFormat controlStep controlOf announceStep formOf takeSlot grantOf dataFrameOf segmentStep segmentOpen judgedOf dueOf readingStep elapsed Groups.reading Groups.readFrom responseBytes replyId reasonOf k calls observed shows recordAfter storeAfter frameSeen isOwn isBody strays lost openIn touches replyOf saysOf readingSeen keptNumber endingsOf endingOf frameKey bodyOf taken controlBody dataBody
+whole-case = refl

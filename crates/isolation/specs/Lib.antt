@@ -1,0 +1,4 @@
+pub mod Rules
+pub mod World
+pub mod Observe
+pub mod Stands

@@ -1,0 +1,45 @@
+-- The state of the rules that a record and a store stand for: each key's session as its slot and the slot's bytes have it.
+use Prim.Native.Nat.{ℕ, zero, suc, _+_, _-_, _*_}
+use mathlib.Core.Option.{Option, none, some}
+use mathlib.Core.List.{List, [], _∷_}
+use lib.ListN.{getD, take, drop}
+use Rattle.receiver.specs.declared.Receiver.{Receiver}
+use Rattle.slots.specs.declared.SlotState.{SlotState}
+use Rattle.slots.specs.declared.SlotState.the-variants as slot
+use Rattle.slots.specs.Slots.{keyPlace, freeSlot, onFound}
+use Rattle.isolation.specs.Rules.{Values, keyAt, Open, Piece, due}
+use Rattle.isolation.specs.World.{World}
+
+abbrev pub valuesOf : Receiver → Values
+valuesOf r = record { own = r .own; limit = r .limit }
+
+-- segments 1 to n of the message in slot i, the latest first
+unfoldable pub piecesOf : ℕ → List ℕ → ℕ → ℕ → List Piece
+piecesOf i m total zero = []
+piecesOf i m total (suc n) =
+    record { number = suc n; bytes = take (due total (suc n)) (drop (4096 * i + 60 * n) m) } ∷ piecesOf i m total n
+
+-- the segments below the next are in; no session announces assurance data
+unfoldable pub openOf : ℕ → List ℕ → SlotState → Option Open
+openOf i m slot.Free = none
+openOf i m (slot.Open s) =
+    some (record {
+      told = record {
+        kind = s .kind;
+        total = s .total;
+        segments = s .segments;
+        max = s .max;
+        assurance = 0;
+        pgn = s .pgn;
+      };
+      mark = s .mark;
+      granted = s .granted .0;
+      pieces = piecesOf i m (s .total .0) (s .next .0 - 1);
+    })
+
+unfoldable pub standsFor : Receiver → List ℕ → World
+standsFor r m =
+    λ k. record {
+      last = r .last;
+      session = onFound (keyPlace (keyAt k) (r .slots)) (λ i. openOf i m (getD (r .slots) i freeSlot .state)) none;
+    }

@@ -1,0 +1,1 @@
+// No session can disturb another: the rules of one session by itself, and the theorem, stand in specs/ and proofs/.
