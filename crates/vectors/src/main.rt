@@ -2,9 +2,13 @@
 // worked out from the standard by hand; no line of it was copied from a run.
 mod groups;
 mod show;
+mod transfers;
 
 fn main() {
     groups::headers();
     groups::padding();
     groups::examples();
+    transfers::received();
+    transfers::sent();
+    transfers::segments();
 }
