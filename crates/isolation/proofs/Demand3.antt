@@ -17,7 +17,8 @@ use Rattle.receiver.specs.declared.answer.Elapsed.{Elapsed}
 use Rattle.receiver.specs.Slots.{freeSlot}
 use Rattle.receiver.specs.Bounds.{openingOk, stateOk, inBounds, opened, openedWith}
 use Rattle.receiver.specs.Calls.{Outcome, refused, isReady, onVerdict, frameAll, readingKept, readingStep, stays}
-use Rattle.isolation.specs.Rules.{Values, keyAt, frameKey, bodyOf, State, fresh, Input, Seen, nextState, output, outputs}
+use Rattle.isolation.specs.OwnFrames.{keyAt, frameKey, bodyOf}
+use Rattle.isolation.specs.Rules.{Values, State, fresh, Input, Seen, nextState, output, outputs}
 use Rattle.isolation.specs.World.{Event, frame, clock, Call, lent, elsewhere, World, sees, after, worldAfter, told}
 use Rattle.isolation.specs.Observe.{touches, lost, strays, endingOf, endingsOf, keptNumber, readingSeen, isBoundsRefusal, frameElsewhere, readingElsewhere, shows, recordAfter, storeAfter, observed}
 use Rattle.isolation.specs.Stands.{valuesOf, standsFor}

@@ -21,7 +21,8 @@ use Rattle.receiver.specs.declared.slot.Found.{Found}
 use Rattle.receiver.specs.declared.slot.Found.the-variants.{At, Nothing}
 use Rattle.receiver.specs.Slots.{keyPlace, onFound}
 use Rattle.receiver.specs.Bounds.{openingOk, stateOk, slotOk, anyHolds, stateTwin, twinOf, slotsOk, inBounds}
-use Rattle.isolation.specs.Rules.{Values, keyAt, Open, Piece}
+use Rattle.isolation.specs.OwnFrames.{keyAt}
+use Rattle.isolation.specs.Rules.{Values, Open, Piece}
 use Rattle.isolation.specs.World.{World}
 use Rattle.isolation.specs.Observe.{openIn}
 use Rattle.isolation.specs.Stands.{valuesOf, piecesOf, openOf, standsFor}

@@ -26,7 +26,9 @@ use Rattle.receiver.specs.Slots.{keyPlace, firstFree, freeSlot, freeState}
 use Rattle.receiver.specs.Bounds.{openingOk, stateOk}
 use Rattle.receiver.specs.Calls.{Outcome, withSlot, expired, expiredState, slotEnd, endOf, readingKept}
 use Rattle.isolation.specs.Rules as R
-use Rattle.isolation.specs.Rules.{Values, keyAt, frameKey, allKeys, Body, announce, segment, status, abort, bodyOf, Open, Out, Reply, isOpen, rule, judgedAt, endsAt, mine, nextState, output, outputs}
+use Rattle.isolation.specs.OwnFrames.{keyAt, frameKey, allKeys, Body, announce, segment, status, abort, bodyOf}
+use Rattle.isolation.specs.Replies.{Reply}
+use Rattle.isolation.specs.Rules.{Values, Open, Out, isOpen, rule, judgedAt, endsAt, mine, nextState, output, outputs}
 use Rattle.isolation.specs.World.{frame, clock, lent, World, eightOthers, isAnnouncement, seesBody, sees, after, worldAfter}
 use Rattle.isolation.specs.Observe.{replyOf, lost, isBody, isOwn, strays, frameSeen, endingOf, endingsOf, keptNumber, readingSeen}
 use Rattle.isolation.proofs.Tests.{or-false, clash, and-left, or-1}

@@ -45,7 +45,7 @@ use Rattle.receiver.specs.Bounds.{openingOk, inBounds, opened}
 use Rattle.receiver.specs.Calls as C
 use Rattle.receiver.specs.Calls.{Outcome, answered, refused, withSlot, endingOf, rejected, openedIn, takeSlot, onForm, announceStep, onKey, statusStep, abortStep, onJudged, segmentOpen, segmentStep, isReady, onVerdict, frameAll, frameStep, frameStore, expired, expiredState, endOf, slotEnd, readingKept, readingStep, stays}
 use Rattle.receiver.specs.Answers.{answerNumber}
-use Rattle.isolation.specs.Rules.{keyAt, frameKey, Body, announce, segment, status, abort, bodyOf}
+use Rattle.isolation.specs.OwnFrames.{keyAt, frameKey, Body, announce, segment, status, abort, bodyOf}
 use Rattle.isolation.proofs.Slots.{at}
 use Rattle.isolation.proofs.Single.{bodyStep}
 use Rattle.isolation.proofs.Read.{mild, Takes, frame-agrees}

@@ -13,12 +13,13 @@ use Rattle.transport.specs.declared.control.Announcement.{Announcement}
 use Rattle.session.specs.Announcements as S
 use Rattle.session.specs.Segments.{dueOf}
 use Rattle.session.specs.Ends.{elapsed}
+use Rattle.isolation.specs.OwnFrames as F
 use Rattle.isolation.specs.Rules as R
-use Rattle.isolation.specs.Rules.{keyAt}
+use Rattle.isolation.specs.OwnFrames.{keyAt}
 use Rattle.isolation.proofs.Tests.{or-either, same-test}
 
-pub kind-same : (κ : Kind) → R.isRts κ ≡ S.isRts κ
-unfolding R.isRts
+pub kind-same : (κ : Kind) → F.isRts κ ≡ S.isRts κ
+unfolding F.isRts
 kind-same Rts = refl
 kind-same Bam = refl
 

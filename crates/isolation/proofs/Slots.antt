@@ -16,7 +16,7 @@ use Rattle.receiver.specs.declared.slot.SlotState.the-variants.{Free, Open}
 use Rattle.receiver.specs.declared.slot.Found.{Found}
 use Rattle.receiver.specs.declared.slot.Found.the-variants.{At, Nothing}
 use Rattle.receiver.specs.Slots.{sameKey, freeState, isFree, stateHolds, holdsKey, firstAt, firstFree, keyPlace, freeSlot}
-use Rattle.isolation.specs.Rules.{keyAt}
+use Rattle.isolation.specs.OwnFrames.{keyAt}
 use Rattle.isolation.specs.Observe.{openAt}
 use Rattle.isolation.proofs.Tests.{or-false, clash, and-left, and-right, both, same-test}
 

@@ -21,7 +21,9 @@ use Rattle.receiver.specs.declared.answer.Kept.the-variants as kept
 use Rattle.receiver.specs.declared.answer.Elapsed.{Elapsed}
 use Rattle.receiver.specs.Calls.{Outcome, frameAll, readingStep}
 use Rattle.receiver.specs.Answers.{answerNumber, answerSends, endSends, wireOf, messageBytes}
-use Rattle.isolation.specs.Rules.{Values, keyAt, frameKey, Body, bodyOf, Reply, Says, nothing, opened, took, granted, handed, aborted, ended, rejected, Seen, answer, reading, stray}
+use Rattle.isolation.specs.OwnFrames.{keyAt, frameKey, Body, bodyOf}
+use Rattle.isolation.specs.Replies.{Reply, Says, nothing, opened, took, granted, handed, aborted, ended, rejected}
+use Rattle.isolation.specs.Rules.{Values, Seen, answer, reading, stray}
 use Rattle.isolation.specs.World.{frame, clock, Call, lent, elsewhere}
 
 -- ---- keys

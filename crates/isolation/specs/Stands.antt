@@ -7,7 +7,8 @@ use Rattle.receiver.specs.declared.Receiver.{Receiver}
 use Rattle.receiver.specs.declared.slot.SlotState.{SlotState}
 use Rattle.receiver.specs.declared.slot.SlotState.the-variants as slot
 use Rattle.receiver.specs.Slots.{keyPlace, freeSlot, onFound}
-use Rattle.isolation.specs.Rules.{Values, keyAt, Open, Piece, due}
+use Rattle.isolation.specs.OwnFrames.{keyAt}
+use Rattle.isolation.specs.Rules.{Values, Open, Piece, due}
 use Rattle.isolation.specs.World.{World}
 
 abbrev pub valuesOf : Receiver → Values
