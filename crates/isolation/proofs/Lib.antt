@@ -12,6 +12,7 @@ pub mod Silent
 pub mod Read
 pub mod Many
 pub mod InBounds
+pub mod Run
 pub mod Demand3
 pub mod Refused
 pub mod Message

@@ -1,7 +1,7 @@
 -- A frame as the receiver reads it, and as the rules' own test does.
 use Prim.Native.Nat.{ℕ, zero, suc, _+_, _*_, _-_, _^_, _≤_, _<_}
 use mathlib.Core.Path.{_≡_, refl, ap}
-use mathlib.Core.Bool.{Bool, true, false, cond, not, _&&_, _||_}
+use mathlib.Core.Bool.{and-assoc, Bool, true, false, cond, not, _&&_, _||_}
 use mathlib.Core.Option.{Option, none, some}
 use mathlib.Core.List.{List}
 use native.Mathlib.Omega.{arith}
@@ -162,10 +162,7 @@ module _ (r : Receiver) (id : ℕ) (d m : List ℕ) where
 -- ---- 2, 1, 3
 
 chain-6 : (a b c d e f : Bool) → (a && (b && (c && ((d && e) && f)))) ≡ (a && b && c && d && e && f)
-chain-6 true true true d e f = refl
-chain-6 true true false d e f = refl
-chain-6 true false c d e f = refl
-chain-6 false b c d e f = refl
+chain-6 a b c d e f = simp and-assoc
 
 sa-same : (sa : ℕ) → sa < 256 → ltb sa 254 ≡ (not (eqb sa 254) && not (eqb sa 255))
 sa-same sa h = same-test (ltb sa 254) (not (eqb sa 254) && not (eqb sa 255))

@@ -2,7 +2,7 @@
 use Prim.Native.Nat.{ℕ, zero, suc}
 use mathlib.Core.Path.{_≡_, refl, sym, ap, _∙_, subst}
 use mathlib.Core.Logic.{_⊎_, inl, inr}
-use mathlib.Core.Bool.{Bool, true, false, cond, not, _||_}
+use mathlib.Core.Bool.{and-false, Bool, true, false, cond, not, _||_}
 use mathlib.Core.Option.{Option, none, some}
 use mathlib.Core.List.{List, map}
 use native.Mathlib.Omega.{arith}
@@ -49,7 +49,7 @@ use Rattle.isolation.specs.OwnFrames.{keyAt, frameKey, Body, announce, s
 use Rattle.isolation.proofs.Slots.{at}
 use Rattle.isolation.proofs.Single.{bodyStep}
 use Rattle.isolation.proofs.Read.{mild, Takes, frame-agrees}
-use Rattle.isolation.proofs.Tests.{clash, both, and-false}
+use Rattle.isolation.proofs.Tests.{clash, both}
 
 -- the session of key κ ends with 19 or 21; no other slot and no byte changes
 pub record EndsOne (r : Receiver) (m : List ℕ) (κ : Key) (o : Outcome) : Type 0 where

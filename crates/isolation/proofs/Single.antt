@@ -2,7 +2,7 @@
 use Prim.Native.Nat.{ℕ, suc, _+_, _*_, _-_, _/_, _≤_, _<_}
 use mathlib.Core.Path.{_≡_, refl, sym, ap, ap₂, _∙_, subst}
 use mathlib.Core.Logic.{_⊎_, inl, inr}
-use mathlib.Core.Bool.{Bool, true, false, cond, not, _&&_, _||_}
+use mathlib.Core.Bool.{and-assoc, Bool, true, false, cond, not, _&&_, _||_}
 use mathlib.Core.Option.{Option, none, some}
 use mathlib.Core.List.{List, [], _∷_}
 use native.Mathlib.Omega.{arith}
@@ -48,7 +48,7 @@ use Rattle.isolation.specs.Observe.{saysOf, replyOf, touches}
 use Rattle.isolation.proofs.Tests.{clash, or-left, or-right, and-left, or-either}
 use Rattle.isolation.proofs.Slots.{at, other-key}
 use Rattle.isolation.proofs.Bytes.{part, within-self, length-part, take-part, part-paste, within-paste}
-use Rattle.isolation.proofs.Same.{kind-same, grant-same, due-same, numbers-same, misdirected-same, eqb-next, and-assoc}
+use Rattle.isolation.proofs.Same.{kind-same, grant-same, due-same, numbers-same, misdirected-same, eqb-next}
 use Rattle.isolation.proofs.Pieces.{cut, segment-inside, taken-same, joined-cut, cut-next}
 use Rattle.isolation.proofs.Sound.{Ok, grantsOk, grants-first, grants-next}
 use Rattle.isolation.proofs.Fit.{recordOf, Rel, Place, Fit, fit-cond, fit-step, fit-reply, fit-form, fit-judged, reply-cond, quiet-cond, wire-cond}
@@ -199,11 +199,8 @@ module _ (v : Values) (r : Receiver) (m : List ℕ) (whole : length m ≡ 32768)
 
 -- ---- a key that is open
 
-and-chain : (a b c d e : Bool) → (a && (b && (c && (d && e)))) ≡ ((((a && b) && c) && d) && e)
-and-chain true true true d e = refl
-and-chain true true false d e = refl
-and-chain true false c d e = refl
-and-chain false b c d e = refl
+and-chain : (a b c d e : Bool) → (a && (b && (c && (d && e)))) ≡ (a && b && c && d && e)
+and-chain a b c d e = simp and-assoc
 
 module _ (v : Values) (r : Receiver) (m : List ℕ) (whole : length m ≡ 32768) (k : ℕ) (me : Mine v k) (ρ : Open) (h : Held v r m k ρ) where
   s : Session
@@ -311,7 +308,7 @@ module _ (v : Values) (r : Receiver) (m : List ℕ) (whole : length m ≡ 32768)
 
   spent-same : (n : ℕ) → spent ρ n ≡ ctsDue (recordOf k ρ) n
   unfolding spent
-  spent-same n = rw (kind-same (ρ .told .kind)) (and-assoc (S.isRts (ρ .told .kind)) (eqb n (ρ .granted)) (ltb n (ρ .told .segments .0)))
+  spent-same n = rw (kind-same (ρ .told .kind)) (sym (and-assoc (S.isRts (ρ .told .kind)) (eqb n (ρ .granted)) (ltb n (ρ .told .segments .0))))
 
   -- the next segment, with the data due
   adds-next : (d : List ℕ) → suc (length (ρ .pieces)) ≤ ρ .told .segments .0 → dueOf (ρ .told .total .0) (suc (length (ρ .pieces))) ≤ length (dataAt d)
