@@ -10,8 +10,8 @@ use Rattle.receiver.specs.declared.answer.Opening.the-variants.{Accepted}
 use Rattle.receiver.specs.Bounds.{inBounds, opened, openedWith}
 use Rattle.isolation.specs.OwnFrames.{keyAt}
 use Rattle.isolation.specs.Rules.{Values, fresh, outputs}
-use Rattle.isolation.specs.World.{frame, Call, worldAfter, told}
-use Rattle.isolation.specs.Observe.{shows, recordAfter, storeAfter, observed}
+use Rattle.isolation.specs.World.{Call, worldAfter, told}
+use Rattle.isolation.specs.Observe.{recordAfter, storeAfter, observed}
 use Rattle.isolation.specs.Stands.{valuesOf, standsFor}
 use Rattle.isolation.proofs.InBounds.{sim-bounds, bounds-sim}
 use Rattle.transport.specs.declared.Key.{Key}

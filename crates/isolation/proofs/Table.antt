@@ -18,6 +18,7 @@ use Rattle.receiver.specs.declared.slot.SlotState.the-variants as is
 use Rattle.receiver.specs.declared.answer.Answer.{Answer}
 use Rattle.receiver.specs.declared.answer.Answer.the-variants.{Groups, Opened, Taken, Grant, HandedOver, Aborted, Ended, RefusedRts, Refused}
 use Rattle.receiver.specs.declared.answer.End.the-variants as end
+use Rattle.receiver.specs.declared.answer.Kept.the-variants as kept
 use Rattle.receiver.specs.Slots.{freeSlot}
 use Rattle.receiver.specs.Bounds.{inBounds, slotsOk, opened}
 use Rattle.receiver.specs.Calls.{Outcome, takeSlot, announceStep, controlStep, segmentOpen, segmentStep, frameAll, readingStep, stays, endingOf}
@@ -109,10 +110,19 @@ pub record Rows : Type 0 where
   pub p11 : toRts (rts 1 16 69) ≡ RefusedRts (record { key = key; refusal = TooLong; pgn = 65226 })
   pub p11-number : answerNumber (toRts (rts 1 16 69)) ≡ 12
   -- reading 1,243: it stays
-  pub p12-stays : (readingStep held 1243 m .ends ≡ replicate 8 stays) × (readingStep held 1243 m .next .slots ≡ held .slots)
+  pub p12-stays : readingStep held 1243 m
+      ≡ record {
+        next = record { own = held .own; limit = 1250; last = 1243; slots = held .slots };
+        answer = kept.Kept;
+        ends = replicate 8 stays;
+      }
   -- reading 1,244: it ends with 22
-  pub p12-ends : (readingStep held 1244 m .ends ≡ record { end = end.Ended (endingOf session Silence) } ∷ replicate 7 stays)
-      × (readingStep held 1244 m .next .slots ≡ replicate 8 freeSlot)
+  pub p12-ends : readingStep held 1244 m
+      ≡ record {
+        next = record { own = held .own; limit = 1250; last = 1244; slots = replicate 8 freeSlot };
+        answer = kept.Kept;
+        ends = record { end = end.Ended (endingOf session Silence) } ∷ replicate 7 stays;
+      }
 
 pub rows : Rows
 unfolding r m key rts toRts opened inBounds slotsOk frameAll judged byFormat controlStep controlOf announceStep formOf takeSlot grantOf allGrants grants countOf dt dataFrameOf segmentStep segmentOpen judgedOf dueOf session held readingStep elapsed
@@ -124,6 +134,6 @@ rows =
       p10 = refl;
       p11 = refl;
       p11-number = refl;
-      p12-stays = (refl, refl);
-      p12-ends = (refl, refl);
+      p12-stays = refl;
+      p12-ends = refl;
     }
