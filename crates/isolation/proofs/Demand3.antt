@@ -1,8 +1,8 @@
 -- Demand 3 of document 01, whole: no session can disturb another. A key is written as its number, 4,096 SA + 16 DA + session.
 use Prim.Native.Nat.{ℕ, _+_, _*_, _<_}
-use mathlib.Core.Path.{_≡_, sym, _∙_}
+use mathlib.Core.Path.{_≡_, refl, sym, _∙_}
 use mathlib.Core.Bool.{true}
-use mathlib.Core.List.{List}
+use mathlib.Core.List.{List, [], _∷_}
 use lib.ListN.{length, replicate, length-replicate}
 use Rattle.frame.specs.declared.Address.{Address}
 use Rattle.receiver.specs.declared.Receiver.{Receiver}
@@ -11,10 +11,14 @@ use Rattle.receiver.specs.Bounds.{inBounds, opened, openedWith}
 use Rattle.isolation.specs.OwnFrames.{keyAt}
 use Rattle.isolation.specs.Rules.{Values, fresh, outputs}
 use Rattle.isolation.specs.World.{Call, worldAfter, told}
-use Rattle.isolation.specs.Observe.{recordAfter, storeAfter, observed}
+use Rattle.isolation.specs.Observe.{recordAfter, storeAfter, observed, recordOver, storeOver}
 use Rattle.isolation.specs.Stands.{valuesOf, standsFor}
 use Rattle.isolation.proofs.InBounds.{sim-bounds, bounds-sim}
 use Rattle.transport.specs.declared.Key.{Key}
+use Rattle.receiver.specs.declared.answer.Kept.the-variants as kept
+use Rattle.receiver.specs.Calls.{frameStep, readingStep}
+use Rattle.receiver.specs.Answers.{answerNumber}
+use Rattle.isolation.proofs.Refused.{never-23, reading-never-23}
 use Rattle.isolation.proofs.Slots.{key-of}
 use Rattle.isolation.proofs.Run.{keeps, run, open-sim, accepted-ok}
 
@@ -46,6 +50,10 @@ from-any-record r m e eight whole k cs = run (valuesOf r) k cs r m (standsFor r 
 
 -- ---- bounds
 
+eight-slots : (own : Address) (limit first : ℕ) → length (opened own limit first .receiver .slots) ≡ 8
+unfolding opened
+eight-slots own limit first = refl
+
 -- An accepted opening gives a record in bounds.
 pub opens-in-bounds : (own : Address) (limit first : ℕ) → opened own limit first .answer ≡ Accepted → inBounds (opened own limit first .receiver) ≡ true
 unfolding opened
@@ -70,3 +78,32 @@ stays-in-bounds r m e eight whole c =
       eight = s .eight;
       whole = s .whole;
     }
+
+-- So every record that the receiver itself has made is in bounds, and the store keeps its length.
+pub over-in-bounds : (r : Receiver) (m : List ℕ) → inBounds r ≡ true → length (r .slots) ≡ 8 → length m ≡ 32768 → (cs : List Call) → Sound r (recordOver r m cs) (storeOver r m cs)
+unfolding recordOver storeOver
+over-in-bounds r m e eight whole [] = record { bounds = e; own = refl; limit = refl; eight = eight; whole = whole }
+over-in-bounds r m e eight whole (c ∷ cs) = next (stays-in-bounds r m e eight whole c) (λ s. over-in-bounds (recordAfter r m c) (storeAfter r m c) (s .bounds) (s .eight) (s .whole) cs)
+  where
+    next : Sound r (recordAfter r m c) (storeAfter r m c)
+        → (Sound r (recordAfter r m c) (storeAfter r m c) → Sound (recordAfter r m c) (recordOver (recordAfter r m c) (storeAfter r m c) cs) (storeOver (recordAfter r m c) (storeAfter r m c) cs))
+        → Sound r (recordOver (recordAfter r m c) (storeAfter r m c) cs) (storeOver (recordAfter r m c) (storeAfter r m c) cs)
+    next s f = record {
+      bounds = f s .bounds;
+      own = f s .own ∙ s .own;
+      limit = f s .limit ∙ s .limit;
+      eight = f s .eight;
+      whole = f s .whole;
+    }
+
+-- The receiver never refuses a record of its own with 23: after an accepted opening and any list of calls, a frame or a reading that is
+-- lent the store is answered otherwise.
+pub never-refuses-its-own : (own : Address) (limit first : ℕ) → opened own limit first .answer ≡ Accepted → (m : List ℕ) → length m ≡ 32768 → (cs : List Call)
+    → let r : Receiver = recordOver (opened own limit first .receiver) m cs in
+    let s : List ℕ = storeOver (opened own limit first .receiver) m cs in
+    ((id : ℕ) (d : List ℕ) → answerNumber (frameStep r id d s .answer) ≡ 23 → ⊥) × ((t : ℕ) → readingStep r t s .answer ≡ kept.Kept)
+never-refuses-its-own own limit first g m h cs =
+    let a = over-in-bounds (opened own limit first .receiver) m (opens-in-bounds own limit first g) (eight-slots own limit first) h cs in
+    let r : Receiver = recordOver (opened own limit first .receiver) m cs in
+    let s : List ℕ = storeOver (opened own limit first .receiver) m cs in
+    ((λ id d. never-23 r id d s (a .bounds) (a .whole)), (λ t. reading-never-23 r t s (a .bounds) (a .whole)))

@@ -13,8 +13,8 @@ pub mod Read
 pub mod Many
 pub mod InBounds
 pub mod Run
-pub mod Demand3
 pub mod Refused
+pub mod Demand3
 pub mod Message
 pub mod Table
 pub mod WholeCase

@@ -165,3 +165,12 @@ storeAfter r m (elsewhere b e c) = m
 unfoldable pub observed : Values → ℕ → Receiver → List ℕ → List Call → List Seen
 observed v k r m [] = []
 observed v k r m (c ∷ cs) = shows v k r m c ++ observed v k (recordAfter r m c) (storeAfter r m c) cs
+
+-- the record and the store after a list of calls
+unfoldable pub recordOver : Receiver → List ℕ → List Call → Receiver
+recordOver r m [] = r
+recordOver r m (c ∷ cs) = recordOver (recordAfter r m c) (storeAfter r m c) cs
+
+unfoldable pub storeOver : Receiver → List ℕ → List Call → List ℕ
+storeOver r m [] = m
+storeOver r m (c ∷ cs) = storeOver (recordAfter r m c) (storeAfter r m c) cs
