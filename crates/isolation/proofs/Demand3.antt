@@ -1,158 +1,30 @@
--- Demand 3 of document 01, whole: no session can disturb another.
-use Prim.Native.Nat.{ℕ, zero, suc}
-use mathlib.Core.Path.{_≡_, refl, sym, ap, _∙_, subst}
-use mathlib.Core.Bool.{Bool, true, false, cond}
-use mathlib.Core.List.{List, [], _∷_, _++_}
-use lib.Dec.{eqb}
+-- Demand 3 of document 01, whole: no session can disturb another. A key is written as its number, 4,096 SA + 16 DA + session.
+use Prim.Native.Nat.{ℕ, _+_, _*_, _<_}
+use mathlib.Core.Path.{_≡_, refl, sym, _∙_}
+use mathlib.Core.Bool.{true}
+use mathlib.Core.List.{List, [], _∷_}
 use lib.ListN.{length, replicate, length-replicate}
-use borrow.Author.Tests.{eq-eqb}
 use Rattle.frame.specs.declared.Address.{Address}
-use Rattle.frame.specs.declared.refusal.Refusal.the-variants.{OutOfBounds}
-use Rattle.frame.specs.Judge.{judged}
 use Rattle.receiver.specs.declared.Receiver.{Receiver}
-use Rattle.receiver.specs.declared.answer.Opening.{Opening}
-use Rattle.receiver.specs.declared.answer.Opening.the-variants.{Accepted, Refused}
-use Rattle.receiver.specs.declared.answer.Kept.the-variants as kept
-use Rattle.receiver.specs.declared.answer.Elapsed.{Elapsed}
-use Rattle.slots.specs.Slots.{freeSlot}
-use Rattle.slots.specs.Bounds.{openingOk, stateOk}
+use Rattle.receiver.specs.declared.answer.Opening.the-variants.{Accepted}
 use Rattle.receiver.specs.Bounds.{inBounds, opened, openedWith}
-use Rattle.receiver.specs.Calls.{Outcome, refused, isReady, onVerdict, frameAll, readingKept, readingStep, stays}
-use Rattle.isolation.specs.Rules.{Values, keyAt, frameKey, bodyOf, State, fresh, Input, Seen, nextState, output, outputs}
-use Rattle.isolation.specs.World.{Event, frame, clock, Call, lent, elsewhere, World, sees, after, worldAfter, told}
-use Rattle.isolation.specs.Observe.{touches, lost, strays, endingOf, endingsOf, keptNumber, readingSeen, isBoundsRefusal, frameElsewhere, readingElsewhere, shows, recordAfter, storeAfter, observed}
+use Rattle.isolation.specs.OwnFrames.{keyAt}
+use Rattle.isolation.specs.Rules.{Values, fresh, outputs}
+use Rattle.isolation.specs.World.{Call, worldAfter, told}
+use Rattle.isolation.specs.Observe.{recordAfter, storeAfter, observed, recordOver, storeOver}
 use Rattle.isolation.specs.Stands.{valuesOf, standsFor}
-use Rattle.isolation.proofs.Tests.{clash, both}
-use Rattle.isolation.proofs.Slots.{at, holds, holds-free}
-use Rattle.isolation.proofs.Read.{Agrees, frame-agrees}
-use Rattle.isolation.proofs.Many.{Sim, same-sim, kept-open, FrameKeeps, frame-keeps, reading-next, reading-says}
 use Rattle.isolation.proofs.InBounds.{sim-bounds, bounds-sim}
+use Rattle.transport.specs.declared.Key.{Key}
+use Rattle.receiver.specs.declared.answer.Kept.the-variants as kept
+use Rattle.receiver.specs.Calls.{frameStep, readingStep}
+use Rattle.receiver.specs.Answers.{answerNumber}
+use Rattle.isolation.proofs.Refused.{never-23, reading-never-23}
+use Rattle.isolation.proofs.Slots.{key-of}
+use Rattle.isolation.proofs.Run.{keeps, run, open-sim, accepted-ok}
 
--- ---- one call
-
--- what a call must keep
-record Keeps (v : Values) (r : Receiver) (m : List ℕ) (w : World) (c : Call) : Type 0 where
-  next : Sim v (recordAfter r m c) (storeAfter r m c) (worldAfter v w c)
-  says : (k : ℕ) → shows v k r m c ≡ outputs v k (w k) (sees v w k c)
-
--- a call that is lent another buffer is refused with 23, and changes nothing
-pub frame-elsewhere : (r : Receiver) (id : ℕ) (d b : List ℕ) → eqb (length b) 32768 ≡ false → frameAll r id d b ≡ (refused r OutOfBounds, b)
-unfolding frameAll
-frame-elsewhere r id d b e = rw e
-
-pub reading-elsewhere : (r : Receiver) (t : ℕ) (b : List ℕ) → eqb (length b) 32768 ≡ false
-    → readingStep r t b ≡ record { next = r; answer = kept.Refused OutOfBounds; ends = replicate 8 stays }
-unfolding readingStep
-reading-elsewhere r t b e = rw e
-
-nothing-ends : (k : ℕ) → endingsOf k (replicate 8 stays) ≡ []
-unfolding endingsOf endingOf
-nothing-ends k = refl
-
-module _ (v : Values) (r : Receiver) (m : List ℕ) (w : World) (sim : Sim v r m w) where
-  ready : isReady r m ≡ true
-  ready = both (eqb (length m) 32768) (inBounds r) (eq-eqb (length m) 32768 (sim .whole)) (sim-bounds v r m w sim)
-
-  frame-is : (id : ℕ) (d : List ℕ) → frameAll r id d m ≡ onVerdict (judged (r .own) id (length d)) r d m
-  unfolding frameAll
-  frame-is id d = ap (λ (t : Bool). cond t (onVerdict (judged (r .own) id (length d)) r d m) (refused r OutOfBounds, m)) ready
-
-  reading-is : (t : ℕ) → readingStep r t m ≡ readingKept r t
-  unfolding readingStep
-  reading-is t = ap (λ (b : Bool). cond b (readingKept r t) (record { next = r; answer = kept.Refused OutOfBounds; ends = replicate 8 stays })) ready
-
-  frame-kept : (id : ℕ) (d : List ℕ) → FrameKeeps v r w id d (frameAll r id d m)
-  frame-kept id d =
-      subst (λ (o : Outcome). FrameKeeps v r w id d o) (sym (frame-is id d))
-      (frame-keeps v r m w sim id d (onVerdict (judged (r .own) id (length d)) r d m)
-      (subst (λ (a : Address). Agrees r d m (keyAt (frameKey id d)) (onVerdict (judged (r .own) id (length d)) r d m) (bodyOf a id d)) (sim .own) (frame-agrees r id d m)))
-
-  not-lost : (k : ℕ) → lost k r r ≡ false
-  not-lost k = kept-open v r r m m w w sim sim k refl
-
-  -- the rules see nothing of a call that is lent another buffer
-  world-elsewhere : (b : List ℕ) (e : eqb (length b) 32768 ≡ false) (c : Event) → Sim v r m (worldAfter v w (elsewhere b e c))
-  unfolding worldAfter sees after
-  world-elsewhere b e c = same-sim v r m w (worldAfter v w (elsewhere b e c)) sim (λ j. refl) (λ j. refl)
-
-  frame-else : (id : ℕ) (d b : List ℕ) (e : eqb (length b) 32768 ≡ false) → Keeps v r m w (elsewhere b e (frame id d))
-  unfolding shows recordAfter storeAfter frameElsewhere isBoundsRefusal strays touches sees outputs
-  frame-else id d b e = record {
-    next = subst (λ (o : Outcome). Sim v (o .0 .next) m (worldAfter v w (elsewhere b e (frame id d)))) (sym (frame-elsewhere r id d b e)) (world-elsewhere b e (frame id d));
-    says = λ k. ap (frameElsewhere v k r id d) (frame-elsewhere r id d b e) ∙ rw (not-lost k);
-  }
-
-  reading-else : (t : ℕ) (b : List ℕ) (e : eqb (length b) 32768 ≡ false) → Keeps v r m w (elsewhere b e (clock t))
-  unfolding shows recordAfter storeAfter readingElsewhere keptNumber sees outputs
-  reading-else t b e = record {
-    next = subst (λ (o : Elapsed). Sim v (o .next) m (worldAfter v w (elsewhere b e (clock t)))) (sym (reading-elsewhere r t b e)) (world-elsewhere b e (clock t));
-    says = λ k. ap (readingElsewhere k r) (reading-elsewhere r t b e) ∙ rw (not-lost k, nothing-ends k);
-  }
-
-  keeps : (c : Call) → Keeps v r m w c
-  unfolding shows recordAfter storeAfter
-  keeps (lent (frame id d)) = record { next = frame-kept id d .next; says = frame-kept id d .says }
-  keeps (lent (clock t)) = record {
-    next = subst (λ (e : Elapsed). Sim v (e .next) m (worldAfter v w (lent (clock t)))) (sym (reading-is t)) (reading-next v r m w sim t);
-    says = λ k. ap (readingSeen k) (reading-is t) ∙ reading-says v r m w sim t k;
-  }
-  keeps (elsewhere b e (frame id d)) = frame-else id d b e
-  keeps (elsewhere b e (clock t)) = reading-else t b e
-
--- ---- a list of calls
-
-outputs-append : (v : Values) (k : ℕ) (xs ys : List Input) (s : State) → outputs v k s (xs ++ ys) ≡ outputs v k s xs ++ outputs v k (after v k s xs) ys
-unfolding outputs after
-outputs-append v k [] ys s = refl
-outputs-append v k (x ∷ xs) ys s = ap (λ (l : List Seen). output v k s x ∷ l) (outputs-append v k xs ys (nextState v k s x))
-
-run : (v : Values) (k : ℕ) (cs : List Call) (r : Receiver) (m : List ℕ) (w : World) → Sim v r m w → observed v k r m cs ≡ outputs v k (w k) (told v w k cs)
-unfolding observed told outputs worldAfter
-run v k [] r m w sim = refl
-run v k (c ∷ cs) r m w sim =
-    rw (keeps v r m w sim c .says k, run v k cs (recordAfter r m c) (storeAfter r m c) (worldAfter v w c) (keeps v r m w sim c .next))
-    (sym (outputs-append v k (sees v w k c) (told v (worldAfter v w c) k cs) (w k)))
-
--- ---- the opening
-
-nobody : (n i k : ℕ) → holds k (at (replicate n freeSlot) i) ≡ false
-nobody zero i k = holds-free k
-nobody (suc n) zero k = holds-free k
-nobody (suc n) (suc i) k = nobody n i k
-
-all-free : (own : Address) (n i : ℕ) → stateOk own (at (replicate n freeSlot) i) ≡ true
-all-free own zero i = refl
-all-free own (suc n) zero = refl
-all-free own (suc n) (suc i) = all-free own n i
-
-open-sim : (own : Address) (limit first : ℕ) (m : List ℕ) → openingOk own limit ≡ true → length m ≡ 32768
-    → Sim (record { own = own; limit = limit }) (openedWith own limit first) m (λ j. fresh first)
-open-sim own limit first m g h = record {
-  good = g;
-  own = refl;
-  limit = refl;
-  eight = refl;
-  whole = h;
-  last = λ k. refl;
-  held = λ i k e. absurd (clash (holds k (at (replicate 8 freeSlot) i)) e (nobody 8 i k));
-  shut = λ k e. refl;
-  uniq = λ i j k e f. absurd (clash (holds k (at (replicate 8 freeSlot) i)) e (nobody 8 i k));
-  ok = all-free own 8;
-}
-
-isAccepted : Opening → Bool
-isAccepted Accepted = true
-isAccepted (Refused n) = false
-
-accepted-ok : (own : Address) (limit first : ℕ) → opened own limit first .answer ≡ Accepted → openingOk own limit ≡ true
-unfolding opened isAccepted
-accepted-ok own limit first e = go (openingOk own limit) (ap isAccepted e)
-  where
-    go : (t : Bool) → isAccepted (cond t Accepted (Refused OutOfBounds)) ≡ true → t ≡ true
-    go true e = refl
-    go false e = absurd (clash false e refl)
-
--- ---- the theorem
+-- Every key that a frame can have has a number.
+pub key-numbers : (κ : Key) → κ .da .0 < 256 → κ .session .0 < 16 → keyAt (κ .sa .0 * 4096 + κ .da .0 * 16 + κ .session .0) ≡ κ
+key-numbers κ d s = key-of κ (record { da = d; session = s })
 
 -- DEMAND 3. For every opening that is accepted, every store of 32,768 bytes whatever it held, every list of calls and every key, what
 -- the receiver shows for the key is what the rules of that key by itself put out.
@@ -178,6 +50,10 @@ from-any-record r m e eight whole k cs = run (valuesOf r) k cs r m (standsFor r 
 
 -- ---- bounds
 
+eight-slots : (own : Address) (limit first : ℕ) → length (opened own limit first .receiver .slots) ≡ 8
+unfolding opened
+eight-slots own limit first = refl
+
 -- An accepted opening gives a record in bounds.
 pub opens-in-bounds : (own : Address) (limit first : ℕ) → opened own limit first .answer ≡ Accepted → inBounds (opened own limit first .receiver) ≡ true
 unfolding opened
@@ -202,3 +78,32 @@ stays-in-bounds r m e eight whole c =
       eight = s .eight;
       whole = s .whole;
     }
+
+-- So every record that the receiver itself has made is in bounds, and the store keeps its length.
+pub over-in-bounds : (r : Receiver) (m : List ℕ) → inBounds r ≡ true → length (r .slots) ≡ 8 → length m ≡ 32768 → (cs : List Call) → Sound r (recordOver r m cs) (storeOver r m cs)
+unfolding recordOver storeOver
+over-in-bounds r m e eight whole [] = record { bounds = e; own = refl; limit = refl; eight = eight; whole = whole }
+over-in-bounds r m e eight whole (c ∷ cs) = next (stays-in-bounds r m e eight whole c) (λ s. over-in-bounds (recordAfter r m c) (storeAfter r m c) (s .bounds) (s .eight) (s .whole) cs)
+  where
+    next : Sound r (recordAfter r m c) (storeAfter r m c)
+        → (Sound r (recordAfter r m c) (storeAfter r m c) → Sound (recordAfter r m c) (recordOver (recordAfter r m c) (storeAfter r m c) cs) (storeOver (recordAfter r m c) (storeAfter r m c) cs))
+        → Sound r (recordOver (recordAfter r m c) (storeAfter r m c) cs) (storeOver (recordAfter r m c) (storeAfter r m c) cs)
+    next s f = record {
+      bounds = f s .bounds;
+      own = f s .own ∙ s .own;
+      limit = f s .limit ∙ s .limit;
+      eight = f s .eight;
+      whole = f s .whole;
+    }
+
+-- The receiver never refuses a record of its own with 23: after an accepted opening and any list of calls, a frame or a reading that is
+-- lent the store is answered otherwise.
+pub never-refuses-its-own : (own : Address) (limit first : ℕ) → opened own limit first .answer ≡ Accepted → (m : List ℕ) → length m ≡ 32768 → (cs : List Call)
+    → let r : Receiver = recordOver (opened own limit first .receiver) m cs in
+    let s : List ℕ = storeOver (opened own limit first .receiver) m cs in
+    ((id : ℕ) (d : List ℕ) → answerNumber (frameStep r id d s .answer) ≡ 23 → ⊥) × ((t : ℕ) → readingStep r t s .answer ≡ kept.Kept)
+never-refuses-its-own own limit first g m h cs =
+    let a = over-in-bounds (opened own limit first .receiver) m (opens-in-bounds own limit first g) (eight-slots own limit first) h cs in
+    let r : Receiver = recordOver (opened own limit first .receiver) m cs in
+    let s : List ℕ = storeOver (opened own limit first .receiver) m cs in
+    ((λ id d. never-23 r id d s (a .bounds) (a .whole)), (λ t. reading-never-23 r t s (a .bounds) (a .whole)))

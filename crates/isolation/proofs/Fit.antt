@@ -21,7 +21,9 @@ use Rattle.receiver.specs.declared.answer.Answer.{Answer}
 use Rattle.receiver.specs.declared.answer.Stepped.{Stepped}
 use Rattle.receiver.specs.Calls.{Outcome, withSlot, rejected, onForm, onJudged}
 use Rattle.receiver.specs.Answers.{wireOf}
-use Rattle.isolation.specs.Rules.{Values, keyAt, Open, Out, Reply, sent}
+use Rattle.isolation.specs.OwnFrames.{keyAt}
+use Rattle.isolation.specs.Replies.{Reply, sent}
+use Rattle.isolation.specs.Rules.{Values, Open, Out}
 use Rattle.isolation.specs.Observe.{replyOf, touches}
 use Rattle.isolation.proofs.Slots.{Slots, at, holds}
 use Rattle.isolation.proofs.Bytes.{part, Within}

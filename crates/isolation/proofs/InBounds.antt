@@ -22,7 +22,8 @@ use Rattle.slots.specs.declared.Found.the-variants.{At, Nothing}
 use Rattle.slots.specs.Slots.{keyPlace, onFound}
 use Rattle.slots.specs.Bounds.{openingOk, stateOk, slotOk, anyHolds, stateTwin, twinOf, slotsOk}
 use Rattle.receiver.specs.Bounds.{inBounds}
-use Rattle.isolation.specs.Rules.{Values, keyAt, Open, Piece}
+use Rattle.isolation.specs.OwnFrames.{keyAt}
+use Rattle.isolation.specs.Rules.{Values, Open, Piece}
 use Rattle.isolation.specs.World.{World}
 use Rattle.isolation.specs.Observe.{openIn}
 use Rattle.isolation.specs.Stands.{valuesOf, piecesOf, openOf, standsFor}

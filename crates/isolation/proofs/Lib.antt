@@ -12,8 +12,9 @@ pub mod Silent
 pub mod Read
 pub mod Many
 pub mod InBounds
-pub mod Demand3
+pub mod Run
 pub mod Refused
+pub mod Demand3
 pub mod Message
 pub mod Table
 pub mod WholeCase

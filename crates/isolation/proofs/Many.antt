@@ -2,7 +2,7 @@
 use Prim.Native.Nat.{ℕ, zero, suc, _≤_, _<_}
 use mathlib.Core.Path.{_≡_, refl, sym, ap, ap₂, _∙_, subst}
 use mathlib.Core.Logic.{_⊎_, inl, inr}
-use mathlib.Core.Bool.{Bool, true, false, cond, not, _&&_}
+use mathlib.Core.Bool.{and-not-self, Bool, true, false, cond, not, _&&_}
 use mathlib.Core.Option.{Option, none, some}
 use mathlib.Core.List.{List, [], _∷_, _++_, map, append-nil}
 use native.Mathlib.Omega.{arith}
@@ -26,7 +26,9 @@ use Rattle.slots.specs.Slots.{keyPlace, firstFree, freeSlot, freeState}
 use Rattle.slots.specs.Bounds.{openingOk, stateOk}
 use Rattle.receiver.specs.Calls.{Outcome, withSlot, expired, expiredState, slotEnd, endOf, readingKept}
 use Rattle.isolation.specs.Rules as R
-use Rattle.isolation.specs.Rules.{Values, keyAt, frameKey, allKeys, Body, announce, segment, status, abort, bodyOf, Open, Out, Reply, isOpen, rule, judgedAt, endsAt, mine, nextState, output, outputs}
+use Rattle.isolation.specs.OwnFrames.{keyAt, frameKey, allKeys, Body, announce, segment, status, abort, bodyOf}
+use Rattle.isolation.specs.Replies.{Reply}
+use Rattle.isolation.specs.Rules.{Values, Open, Out, isOpen, rule, judgedAt, endsAt, mine, nextState, output, outputs}
 use Rattle.isolation.specs.World.{frame, clock, lent, World, eightOthers, isAnnouncement, seesBody, sees, after, worldAfter}
 use Rattle.isolation.specs.Observe.{replyOf, lost, isBody, isOwn, strays, frameSeen, endingOf, endingsOf, keptNumber, readingSeen}
 use Rattle.isolation.proofs.Tests.{or-false, clash, and-left, or-1}
@@ -271,15 +273,12 @@ pub record FrameKeeps (v : Values) (r : Receiver) (w : World) (id : ℕ) (d : Li
   pub next : Sim v (o .0 .next) (o .1) (worldAfter v w (lent (frame id d)))
   pub says : (k : ℕ) → frameSeen v k r id d o ≡ outputs v k (w k) (sees v w k (lent (frame id d)))
 
-none-lost : (a b : Bool) → a ≡ b → (a && not b) ≡ false
-none-lost true b e = rw (← e)
-none-lost false b e = refl
-
 -- a key whose rules' session is as it was is not lost
 pub kept-open : (v : Values) (r r′ : Receiver) (m m′ : List ℕ) (w w′ : World) → Sim v r m w → Sim v r′ m′ w′ → (j : ℕ) → w′ j .session ≡ w j .session → lost j r r′ ≡ false
 unfolding lost any
 kept-open v r r′ m m′ w w′ sim sim′ j e =
-    none-lost (any j (r .slots)) (any j (r′ .slots)) (sym (open-any v r m w sim j) ∙ ap isOpen (sym e) ∙ open-any v r′ m′ w′ sim′ j)
+    ap (λ (t : Bool). any j (r .slots) && not t) (sym (open-any v r′ m′ w′ sim′ j) ∙ ap isOpen e ∙ open-any v r m w sim j)
+    ∙ and-not-self (any j (r .slots))
 
 module _ (v : Values) (r : Receiver) (m : List ℕ) (w : World) (sim : Sim v r m w) (id : ℕ) (d : List ℕ) (b : Body) (body : bodyOf (v .own) id d ≡ some b)
     (o : Outcome) (fit : Fit v r m (frameKey id d) (w (frameKey id d) .session) o (rule v (frameKey id d) (r .last) (eightOthers w (frameKey id d)) (w (frameKey id d) .session) b)) where

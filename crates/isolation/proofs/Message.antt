@@ -13,8 +13,12 @@ use Rattle.frame.specs.Pgn.{pgnOk}
 use Rattle.transport.specs.declared.control.Announcement.{Announcement}
 use Rattle.transport.specs.declared.control.Status.{Status}
 use Rattle.session.specs.Segments.{dueOf}
+use Rattle.isolation.specs.OwnFrames as F
+use Rattle.isolation.specs.Replies as P
 use Rattle.isolation.specs.Rules as R
-use Rattle.isolation.specs.Rules.{Values, Body, announce, segment, status, abort, Open, Out, State, Reply, Says, nothing, Piece, nextOf, reject, ending, cts, handOver, closes, opens, announced, due, sixties, spent, adds, asAnnounced, segmentOpen, statusOpen, abortOpen, rule, ifOpen, joined, pieceAt, isTaken, isOpen, judgedAt, Input, mine, now, nextState, fresh}
+use Rattle.isolation.specs.OwnFrames.{Body, announce, segment, status, abort}
+use Rattle.isolation.specs.Replies.{Reply, Says, nothing, reject, ending, cts, handOver}
+use Rattle.isolation.specs.Rules.{Values, Open, Out, State, Piece, nextOf, closes, opens, announced, due, sixties, spent, adds, asAnnounced, segmentOpen, statusOpen, abortOpen, rule, ifOpen, joined, pieceAt, isTaken, isOpen, judgedAt, Input, mine, now, nextState, fresh}
 use Rattle.isolation.specs.World.{after}
 use Rattle.isolation.proofs.Tests.{or-false, clash, or-left, or-right, and-left, or-1, or-2}
 use Rattle.isolation.proofs.Same.{sixties-same, due-same}
@@ -74,7 +78,7 @@ announce-keeps : (v : Values) (k last : ℕ) (eight : Bool) (x : Option Open) (a
 unfolding announced opens R.badNumbers
 announce-keeps v k last eight x a h =
     keeps-cond (R.misdirected (v .own) k (a .kind)) _ _ (λ _. h) (λ _.
-    keeps-cond (eqb (a .total .0) 0 || (not (eqb (a .segments .0) (sixties (a .total .0))) || (R.isRts (a .kind) && eqb (a .max) 0))) _ _ (λ _. h) (λ bad.
+    keeps-cond (eqb (a .total .0) 0 || (not (eqb (a .segments .0) (sixties (a .total .0))) || (F.isRts (a .kind) && eqb (a .max) 0))) _ _ (λ _. h) (λ bad.
     keeps-cond (ltb 4096 (a .total .0)) _ _ (λ _. h) (λ _.
     keeps-cond (not (eqb (a .assurance) 0)) _ _ (λ _. h) (λ _.
     keeps-cond (not (pgnOk (a .pgn))) _ _ (λ _. h) (λ _.
@@ -82,8 +86,8 @@ announce-keeps v k last eight x a h =
     keeps-cond eight _ _ (λ _. h) (λ _.
     record {
       count = eqb-true (a .segments .0) (sixties (a .total .0)) (not-false (eqb (a .segments .0) (sixties (a .total .0)))
-          (or-left (not (eqb (a .segments .0) (sixties (a .total .0)))) (R.isRts (a .kind) && eqb (a .max) 0)
-          (or-right (eqb (a .total .0) 0) (not (eqb (a .segments .0) (sixties (a .total .0))) || (R.isRts (a .kind) && eqb (a .max) 0)) bad)));
+          (or-left (not (eqb (a .segments .0) (sixties (a .total .0)))) (F.isRts (a .kind) && eqb (a .max) 0)
+          (or-right (eqb (a .total .0) 0) (not (eqb (a .segments .0) (sixties (a .total .0))) || (F.isRts (a .kind) && eqb (a .max) 0)) bad)));
       filled = tt;
       upto = omega arith;
     })))))))
@@ -147,13 +151,13 @@ after-keeps v k s (now t ∷ xs) h = after-keeps v k (nextState v k s (now t)) x
 
 abbrev pub isHanded : Says → Bool
 isHanded nothing = false
-isHanded (R.opened k) = false
-isHanded (R.took k n) = false
-isHanded (R.granted k next count pgn) = false
-isHanded (R.handed k kind total segments pgn bytes) = true
-isHanded (R.aborted k) = false
-isHanded (R.ended k kind pgn) = false
-isHanded (R.rejected k pgn) = false
+isHanded (P.opened k) = false
+isHanded (P.took k n) = false
+isHanded (P.granted k next count pgn) = false
+isHanded (P.handed k kind total segments pgn bytes) = true
+isHanded (P.aborted k) = false
+isHanded (P.ended k kind pgn) = false
+isHanded (P.rejected k pgn) = false
 
 -- the open session of the key is closed, and its message is its data joined, Total Bytes in all
 pub record Hands (k : ℕ) (x : Option Open) (q : Out) : Type 0 where
@@ -177,7 +181,7 @@ quiet-reply false p q a b = b
 
 reject-quiet : (k : ℕ) (a : Announcement) (n : ℕ) → isHanded (reject k a n .says) ≡ false
 unfolding reject
-reject-quiet k a n = quiet-reply (R.isRts (a .kind)) _ _ refl refl
+reject-quiet k a n = quiet-reply (F.isRts (a .kind)) _ _ refl refl
 
 announce-hands : (v : Values) (k last : ℕ) (eight : Bool) (x : Option Open) (a : Announcement) → isHanded (announced (v .own) k last eight x a .1 .says) ≡ true → Hands k x (announced (v .own) k last eight x a)
 unfolding announced opens cts
@@ -189,7 +193,7 @@ announce-hands v k last eight x a =
     hands-cond k x (not (pgnOk (a .pgn))) _ _ (λ _. not-handed k x _ (reject-quiet k a 8)) (λ _.
     hands-cond k x (isOpen x) _ _ (λ _. not-handed k x _ (reject-quiet k a 14)) (λ _.
     hands-cond k x eight _ _ (λ _. not-handed k x _ (reject-quiet k a 15)) (λ _.
-    not-handed k x _ (quiet-reply (R.isRts (a .kind)) _ _ refl refl))))))))
+    not-handed k x _ (quiet-reply (F.isRts (a .kind)) _ _ refl refl))))))))
 
 segment-hands : (k last : ℕ) (ρ : Open) (n : ℕ) (d : List ℕ) → isHanded (segmentOpen k last ρ n d .1 .says) ≡ true → Hands k (some ρ) (segmentOpen k last ρ n d)
 unfolding segmentOpen adds cts ending

@@ -1,7 +1,7 @@
 -- The keys that are open, counted over all keys, are the slots that are open.
 use Prim.Native.Nat.{ℕ, zero, suc, _≤_, _<_}
 use mathlib.Core.Path.{_≡_, refl, sym, ap, _∙_}
-use mathlib.Core.Bool.{Bool, true, false, cond, not, _&&_, _||_}
+use mathlib.Core.Bool.{and-false, Bool, true, false, cond, not, _&&_, _||_}
 use mathlib.Core.List.{[], _∷_}
 use native.Mathlib.Omega.{arith}
 use native.Mathlib.Decide.{ℕ-discrete}
@@ -15,7 +15,7 @@ use Rattle.slots.specs.declared.SlotState.the-variants.{Free, Open}
 use Rattle.slots.specs.Slots.{freeState}
 use Rattle.isolation.specs.World.{count}
 use Rattle.isolation.specs.Observe.{openIn}
-use Rattle.isolation.proofs.Tests.{or-false, and-false, or-2}
+use Rattle.isolation.proofs.Tests.{or-false, or-2}
 use Rattle.isolation.proofs.Slots.{Slots, at, holds, keyNumber, Small, same-number, Unique}
 use Rattle.isolation.proofs.Count.{count-same, count-one}
 

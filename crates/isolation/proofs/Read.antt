@@ -1,7 +1,7 @@
 -- A frame as the receiver reads it, and as the rules' own test does.
 use Prim.Native.Nat.{ℕ, zero, suc, _+_, _*_, _-_, _^_, _≤_, _<_}
 use mathlib.Core.Path.{_≡_, refl, ap}
-use mathlib.Core.Bool.{Bool, true, false, cond, not, _&&_, _||_}
+use mathlib.Core.Bool.{and-assoc, Bool, true, false, cond, not, _&&_, _||_}
 use mathlib.Core.Option.{Option, none, some}
 use mathlib.Core.List.{List}
 use native.Mathlib.Omega.{arith}
@@ -33,8 +33,9 @@ use Rattle.receiver.specs.declared.Receiver.{Receiver}
 use Rattle.receiver.specs.declared.answer.Answer.{Answer}
 use Rattle.receiver.specs.declared.answer.Answer.the-variants as answer
 use Rattle.receiver.specs.Calls.{Outcome, answered, refused, onVerdict, groupsStep, controlStep, onControl, onData}
-use Rattle.isolation.specs.Rules as R
-use Rattle.isolation.specs.Rules.{Values, keyAt, frameKey, Body, segment, controlBody, dataBody, bodyOf}
+use Rattle.isolation.specs.OwnFrames as F
+use Rattle.isolation.specs.OwnFrames.{keyAt, frameKey, Body, segment, controlBody, dataBody, bodyOf}
+use Rattle.isolation.specs.Rules.{Values}
 use Rattle.isolation.specs.Observe.{touches}
 use Rattle.isolation.proofs.Tests.{and-left, and-right, both, same-test}
 use Rattle.isolation.proofs.Slots.{key-of}
@@ -161,10 +162,7 @@ module _ (r : Receiver) (id : ℕ) (d m : List ℕ) where
 -- ---- 2, 1, 3
 
 chain-6 : (a b c d e f : Bool) → (a && (b && (c && ((d && e) && f)))) ≡ (a && b && c && d && e && f)
-chain-6 true true true d e f = refl
-chain-6 true true false d e f = refl
-chain-6 true false c d e f = refl
-chain-6 false b c d e f = refl
+chain-6 a b c d e f = simp and-assoc
 
 sa-same : (sa : ℕ) → sa < 256 → ltb sa 254 ≡ (not (eqb sa 254) && not (eqb sa 255))
 sa-same sa h = same-test (ltb sa 254) (not (eqb sa 254) && not (eqb sa 255))
@@ -179,8 +177,8 @@ range-same id = same-test (ltb id 536870912) (not (leb 536870912 id))
     (λ e. let z : id < 536870912 = ltb-true id 536870912 e in ap not (lt-leb 536870912 id (omega arith)))
     (λ e. let z : id < 536870912 = leb-false 536870912 id (not-true (leb 536870912 id) e) in lt-ltb id 536870912 z)
 
-taken-same : (own : Address) (id : ℕ) (d : List ℕ) → R.taken own id d ≡ (not (leb 536870912 id) && (isLength (length d) && routeTaken own (identifierOf id)))
-unfolding R.taken
+taken-same : (own : Address) (id : ℕ) (d : List ℕ) → F.taken own id d ≡ (not (leb 536870912 id) && (isLength (length d) && routeTaken own (identifierOf id)))
+unfolding F.taken
 taken-same own id d =
     rw (range-same id, sa-same (identifierOf id .sa .0) (omega arith))
     (ap (λ (t : Bool). not (leb 536870912 id) && (isLength (length d) && t))
@@ -214,9 +212,9 @@ untaken true x b e = refl
 untaken false x b e = cc
 
 pub frame-mine : (v : Values) (id : ℕ) (d : List ℕ) (b : Body) → v .own .0 ≤ 253 → bodyOf (v .own) id d ≡ some b → Mine v (frameKey id d)
-unfolding bodyOf R.taken frameKey
+unfolding bodyOf F.taken frameKey
 frame-mine v id d b small e =
-    let t = untaken (R.taken (v .own) id d) _ b e in
+    let t = untaken (F.taken (v .own) id d) _ b e in
     let t₁ = and-right (ltb id (2 ^ 29)) _ t in
     let t₂ = and-right (isLength (length d)) _ t₁ in
     let t₃ = and-right (eqb (identifierOf id .extended_data_page) 0) _ t₂ in

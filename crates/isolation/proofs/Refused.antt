@@ -2,7 +2,7 @@
 use Prim.Native.Nat.{ℕ, zero, suc}
 use mathlib.Core.Path.{_≡_, refl, sym, ap, _∙_, subst}
 use mathlib.Core.Logic.{_⊎_, inl, inr}
-use mathlib.Core.Bool.{Bool, true, false, cond, not, _||_}
+use mathlib.Core.Bool.{and-false, Bool, true, false, cond, not, _||_}
 use mathlib.Core.Option.{Option, none, some}
 use mathlib.Core.List.{List, map}
 use native.Mathlib.Omega.{arith}
@@ -46,11 +46,11 @@ use Rattle.receiver.specs.Bounds.{inBounds, opened}
 use Rattle.receiver.specs.Calls as C
 use Rattle.receiver.specs.Calls.{Outcome, answered, refused, withSlot, endingOf, rejected, openedIn, takeSlot, onForm, announceStep, onKey, statusStep, abortStep, onJudged, segmentOpen, segmentStep, isReady, onVerdict, frameAll, frameStep, frameStore, expired, expiredState, endOf, slotEnd, readingKept, readingStep, stays}
 use Rattle.receiver.specs.Answers.{answerNumber}
-use Rattle.isolation.specs.Rules.{keyAt, frameKey, Body, announce, segment, status, abort, bodyOf}
+use Rattle.isolation.specs.OwnFrames.{keyAt, frameKey, Body, announce, segment, status, abort, bodyOf}
 use Rattle.isolation.proofs.Slots.{at}
 use Rattle.isolation.proofs.Single.{bodyStep}
 use Rattle.isolation.proofs.Read.{mild, Takes, frame-agrees}
-use Rattle.isolation.proofs.Tests.{clash, both, and-false}
+use Rattle.isolation.proofs.Tests.{clash, both}
 
 -- the session of key κ ends with 19 or 21; no other slot and no byte changes
 pub record EndsOne (r : Receiver) (m : List ℕ) (κ : Key) (o : Outcome) : Type 0 where

@@ -1,8 +1,8 @@
 -- The rules' own tests and counts are the receiver's.
 use Prim.Native.Nat.{ℕ, _+_, _*_, _-_, _/_, _%_, _≤_, _<_, min}
-use mathlib.Core.Path.{_≡_, refl}
+use mathlib.Core.Path.{_≡_, refl, sym}
 use mathlib.Core.Logic.{_⊎_, inl, inr}
-use mathlib.Core.Bool.{Bool, true, false, cond, not, _&&_, _||_}
+use mathlib.Core.Bool.{or-assoc, Bool, true, false, cond, not, _&&_, _||_}
 use native.Mathlib.Omega.{arith}
 use lib.Dec.{eqb, leb}
 use borrow.Author.Tests.{eqb-true, eqb-false, eq-eqb, ne-eqb, leb-true, leb-false}
@@ -13,12 +13,13 @@ use Rattle.transport.specs.declared.control.Announcement.{Announcement}
 use Rattle.session.specs.Announcements as S
 use Rattle.session.specs.Segments.{dueOf}
 use Rattle.session.specs.Ends.{elapsed}
+use Rattle.isolation.specs.OwnFrames as F
 use Rattle.isolation.specs.Rules as R
-use Rattle.isolation.specs.Rules.{keyAt}
+use Rattle.isolation.specs.OwnFrames.{keyAt}
 use Rattle.isolation.proofs.Tests.{or-either, same-test}
 
-pub kind-same : (κ : Kind) → R.isRts κ ≡ S.isRts κ
-unfolding R.isRts
+pub kind-same : (κ : Kind) → F.isRts κ ≡ S.isRts κ
+unfolding F.isRts
 kind-same Rts = refl
 kind-same Bam = refl
 
@@ -50,17 +51,9 @@ pub sixties-same : (n : ℕ) → R.sixties n ≡ (n + 59) / 60
 unfolding R.sixties
 sixties-same n = sixties-is n (eqb (n % 60) 0) refl
 
-or-assoc : (a b c : Bool) → (a || (b || c)) ≡ ((a || b) || c)
-or-assoc true b c = refl
-or-assoc false b c = refl
-
-pub and-assoc : (a b c : Bool) → (a && (b && c)) ≡ ((a && b) && c)
-and-assoc true b c = refl
-and-assoc false b c = refl
-
 pub numbers-same : (a : Announcement) → R.badNumbers a ≡ S.badNumbers a
 unfolding R.badNumbers
-numbers-same a = rw (sixties-same (a .total .0), kind-same (a .kind)) (or-assoc (eqb (a .total .0) 0) (not (eqb (a .segments .0) ((a .total .0 + 59) / 60))) (S.isRts (a .kind) && eqb (a .max) 0))
+numbers-same a = rw (sixties-same (a .total .0), kind-same (a .kind)) (sym (or-assoc (eqb (a .total .0) 0) (not (eqb (a .segments .0) ((a .total .0 + 59) / 60))) (S.isRts (a .kind) && eqb (a .max) 0)))
 
 -- a frame that is taken goes to the own address or to 255
 pub misdirected-same : (own : Address) (k : ℕ) (κ : Kind) → own .0 ≤ 253 → (eqb (keyAt k .da .0) (own .0) || eqb (keyAt k .da .0) 255) ≡ true

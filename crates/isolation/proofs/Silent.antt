@@ -16,8 +16,11 @@ use Rattle.slots.specs.Slots.{sameKey}
 use Rattle.receiver.specs.Calls as C
 use Rattle.receiver.specs.Calls.{expiredState, endOf}
 use Rattle.receiver.specs.Answers.{abortFor}
-use Rattle.isolation.specs.Rules as R
-use Rattle.isolation.specs.Rules.{Values, keyAt, Open, Reply, ending, judgedAt, endsAt, isSilent}
+use Rattle.isolation.specs.OwnFrames as F
+use Rattle.isolation.specs.Replies as P
+use Rattle.isolation.specs.OwnFrames.{keyAt}
+use Rattle.isolation.specs.Replies.{Reply, ending}
+use Rattle.isolation.specs.Rules.{Values, Open, judgedAt, endsAt, isSilent}
 use Rattle.isolation.specs.Observe.{endReply, endingOf}
 use Rattle.isolation.proofs.Tests.{clash}
 use Rattle.isolation.proofs.Slots.{holds, own-key, holds-one}
@@ -61,8 +64,8 @@ expire-holds limit t k (is.Open s) e = go (leb limit (elapsed (s .mark) t)) e
 end-same : (k : ℕ) (ρ : Open) → endReply (C.endingOf (recordOf k ρ) Silence) ≡ ending k (ρ .told) 22
 unfolding endReply ending
 end-same k ρ =
-    ap (λ (w : Option R.Wire). record { number = 22; says = R.ended (keyAt k) (ρ .told .kind) (ρ .told .pgn); sends = w })
-    (wire-cond (S.isRts (ρ .told .kind)) (R.isRts (ρ .told .kind)) (abortFor (keyAt k) Silence (ρ .told .pgn)) (kind-same (ρ .told .kind)))
+    ap (λ (w : Option P.Wire). record { number = 22; says = P.ended (keyAt k) (ρ .told .kind) (ρ .told .pgn); sends = w })
+    (wire-cond (S.isRts (ρ .told .kind)) (F.isRts (ρ .told .kind)) (abortFor (keyAt k) Silence (ρ .told .pgn)) (kind-same (ρ .told .kind)))
 
 pub ends-own : (v : Values) (t k : ℕ) (x : SlotState) (p : List ℕ) (y : Option Open) → Ses v k x p y → endingOf k (endOf (v .limit) t x) ≡ endsAt v k t y
 unfolding endingOf endsAt isSilent

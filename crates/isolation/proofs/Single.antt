@@ -2,7 +2,7 @@
 use Prim.Native.Nat.{ℕ, suc, _+_, _*_, _-_, _/_, _≤_, _<_}
 use mathlib.Core.Path.{_≡_, refl, sym, ap, ap₂, _∙_, subst}
 use mathlib.Core.Logic.{_⊎_, inl, inr}
-use mathlib.Core.Bool.{Bool, true, false, cond, not, _&&_, _||_}
+use mathlib.Core.Bool.{and-assoc, Bool, true, false, cond, not, _&&_, _||_}
 use mathlib.Core.Option.{Option, none, some}
 use mathlib.Core.List.{List, [], _∷_}
 use native.Mathlib.Omega.{arith}
@@ -38,13 +38,17 @@ use Rattle.slots.specs.Bounds.{keyOk}
 use Rattle.receiver.specs.Calls as C
 use Rattle.receiver.specs.Calls.{Outcome, answered, refused, withSlot, rejected, openedIn, takeSlot, announceStep, messageOf, statusStep, abortStep, stored, segmentStep}
 use Rattle.receiver.specs.Answers.{messageBytes, abortFor, eomaFor}
+use Rattle.isolation.specs.OwnFrames as F
+use Rattle.isolation.specs.Replies as P
 use Rattle.isolation.specs.Rules as R
-use Rattle.isolation.specs.Rules.{Values, keyAt, Body, announce, segment, status, abort, Open, Piece, reject, refuse, ending, cts, plain, sent, handOver, handed, closes, opens, announced, grant, due, spent, adds, asAnnounced, rule, joined, isOpen, isTaken}
+use Rattle.isolation.specs.OwnFrames.{keyAt, Body, announce, segment, status, abort}
+use Rattle.isolation.specs.Replies.{reject, refuse, ending, cts, plain, sent, handOver, handed}
+use Rattle.isolation.specs.Rules.{Values, Open, Piece, closes, opens, announced, grant, due, spent, adds, asAnnounced, rule, joined, isOpen, isTaken}
 use Rattle.isolation.specs.Observe.{saysOf, replyOf, touches}
 use Rattle.isolation.proofs.Tests.{clash, or-left, or-right, and-left, or-either}
 use Rattle.isolation.proofs.Slots.{at, other-key}
 use Rattle.isolation.proofs.Bytes.{part, within-self, length-part, take-part, part-paste, within-paste}
-use Rattle.isolation.proofs.Same.{kind-same, grant-same, due-same, numbers-same, misdirected-same, eqb-next, and-assoc}
+use Rattle.isolation.proofs.Same.{kind-same, grant-same, due-same, numbers-same, misdirected-same, eqb-next}
 use Rattle.isolation.proofs.Pieces.{cut, segment-inside, taken-same, joined-cut, cut-next}
 use Rattle.isolation.proofs.Sound.{Ok, grantsOk, grants-first, grants-next}
 use Rattle.isolation.proofs.Fit.{recordOf, Rel, Place, Fit, fit-cond, fit-step, fit-reply, fit-form, fit-judged, reply-cond, quiet-cond, wire-cond}
@@ -118,7 +122,7 @@ module _ (v : Values) (r : Receiver) (m : List ℕ) (k : ℕ) where
   reject-fit : (x : Option Open) (a : Announcement) (n : Refusal) → Fit v r m k x (rejected r (keyAt k) a n, m) (x, reject k a (numberOf n))
   unfolding replyOf saysOf touches reject sent
   reject-fit x a n =
-      fit-reply (S.isRts (a .kind)) (R.isRts (a .kind)) (kind-same (a .kind))
+      fit-reply (S.isRts (a .kind)) (F.isRts (a .kind)) (kind-same (a .kind))
       (λ _. record { reply = refl; only = λ j ne. refl; change = inl (record { next = refl; store = refl; ses = refl }) })
       (λ _. refuse-fit x n)
 
@@ -143,7 +147,7 @@ module _ (v : Values) (r : Receiver) (m : List ℕ) (whole : length m ≡ 32768)
       → Fit v r m k none (openedIn r (room .slot) (keyAt k) a, m) (opens k (r .last) a)
   unfolding opens replyOf saysOf touches cts sent cut
   opens-fit room a num long sure pgn aimed = record {
-    reply = reply-cond m (answer.Grant (firstCts (keyAt k) a)) (answer.Opened (keyAt k)) (S.isRts (a .kind)) (R.isRts (a .kind)) (cts k 1 (grant (a .max) (a .segments .0)) (a .pgn)) (plain (R.opened (keyAt k)))
+    reply = reply-cond m (answer.Grant (firstCts (keyAt k) a)) (answer.Opened (keyAt k)) (S.isRts (a .kind)) (F.isRts (a .kind)) (cts k 1 (grant (a .max) (a .segments .0)) (a .pgn)) (plain (P.opened (keyAt k)))
         (kind-same (a .kind)) (rw (grant-same (a .max) (a .segments .0))) refl;
     only = λ j ne. quiet-cond j (S.isRts (a .kind)) (answer.Grant (firstCts (keyAt k) a)) (answer.Opened (keyAt k)) refl refl;
     change = inr (record {
@@ -158,7 +162,7 @@ module _ (v : Values) (r : Receiver) (m : List ℕ) (whole : length m ≡ 32768)
   }
     where
       ρ : Open
-      ρ = record { told = a; mark = r .last; granted = cond (R.isRts (a .kind)) (grant (a .max) (a .segments .0)) 0; pieces = [] }
+      ρ = record { told = a; mark = r .last; granted = cond (F.isRts (a .kind)) (grant (a .max) (a .segments .0)) 0; pieces = [] }
 
       few : (t c : ℕ) → 1 ≤ t → c ≡ (t + 59) / 60 → 1 ≤ c
       few t c l e = omega arith
@@ -195,11 +199,8 @@ module _ (v : Values) (r : Receiver) (m : List ℕ) (whole : length m ≡ 32768)
 
 -- ---- a key that is open
 
-and-chain : (a b c d e : Bool) → (a && (b && (c && (d && e)))) ≡ ((((a && b) && c) && d) && e)
-and-chain true true true d e = refl
-and-chain true true false d e = refl
-and-chain true false c d e = refl
-and-chain false b c d e = refl
+and-chain : (a b c d e : Bool) → (a && (b && (c && (d && e)))) ≡ (a && b && c && d && e)
+and-chain a b c d e = simp and-assoc
 
 module _ (v : Values) (r : Receiver) (m : List ℕ) (whole : length m ≡ 32768) (k : ℕ) (me : Mine v k) (ρ : Open) (h : Held v r m k ρ) where
   s : Session
@@ -213,8 +214,8 @@ module _ (v : Values) (r : Receiver) (m : List ℕ) (whole : length m ≡ 32768)
   ends-fit : (n : Refusal) → Fit v r m k (some ρ) (C.ended r (h .slot) (recordOf k ρ) n, m) (closes k ρ (numberOf n))
   unfolding replyOf saysOf touches ending
   ends-fit n = record {
-    reply = ap (λ (w : Option R.Wire). record { number = numberOf n; says = R.ended (keyAt k) (ρ .told .kind) (ρ .told .pgn); sends = w })
-        (wire-cond (S.isRts (ρ .told .kind)) (R.isRts (ρ .told .kind)) (abortFor (keyAt k) n (ρ .told .pgn)) (kind-same (ρ .told .kind)));
+    reply = ap (λ (w : Option P.Wire). record { number = numberOf n; says = P.ended (keyAt k) (ρ .told .kind) (ρ .told .pgn); sends = w })
+        (wire-cond (S.isRts (ρ .told .kind)) (F.isRts (ρ .told .kind)) (abortFor (keyAt k) n (ρ .told .pgn)) (kind-same (ρ .told .kind)));
     only = λ j ne. other-key k j ne;
     change = inr (record {
       slot = h .slot;
@@ -259,8 +260,8 @@ module _ (v : Values) (r : Receiver) (m : List ℕ) (whole : length m ≡ 32768)
       (none, handOver k (ρ .told) (joined (ρ .told .segments .0) (ρ .pieces)))
   unfolding replyOf saysOf touches handOver
   handed-fit e = record {
-    reply = ap₂ (λ (b : List ℕ) (w : Option R.Wire). record { number = 0; says = handed (keyAt k) (ρ .told .kind) (ρ .told .total .0) (ρ .told .segments .0) (ρ .told .pgn) b; sends = w })
-        (bytes-fact e) (wire-cond (S.isRts (ρ .told .kind)) (R.isRts (ρ .told .kind)) (eomaFor (messageOf (h .slot) (recordOf k ρ))) (kind-same (ρ .told .kind)));
+    reply = ap₂ (λ (b : List ℕ) (w : Option P.Wire). record { number = 0; says = handed (keyAt k) (ρ .told .kind) (ρ .told .total .0) (ρ .told .segments .0) (ρ .told .pgn) b; sends = w })
+        (bytes-fact e) (wire-cond (S.isRts (ρ .told .kind)) (F.isRts (ρ .told .kind)) (eomaFor (messageOf (h .slot) (recordOf k ρ))) (kind-same (ρ .told .kind)));
     only = λ j ne. other-key k j ne;
     change = inr (record {
       slot = h .slot;
@@ -307,7 +308,7 @@ module _ (v : Values) (r : Receiver) (m : List ℕ) (whole : length m ≡ 32768)
 
   spent-same : (n : ℕ) → spent ρ n ≡ ctsDue (recordOf k ρ) n
   unfolding spent
-  spent-same n = rw (kind-same (ρ .told .kind)) (and-assoc (S.isRts (ρ .told .kind)) (eqb n (ρ .granted)) (ltb n (ρ .told .segments .0)))
+  spent-same n = rw (kind-same (ρ .told .kind)) (sym (and-assoc (S.isRts (ρ .told .kind)) (eqb n (ρ .granted)) (ltb n (ρ .told .segments .0))))
 
   -- the next segment, with the data due
   adds-next : (d : List ℕ) → suc (length (ρ .pieces)) ≤ ρ .told .segments .0 → dueOf (ρ .told .total .0) (suc (length (ρ .pieces))) ≤ length (dataAt d)
@@ -316,7 +317,7 @@ module _ (v : Values) (r : Receiver) (m : List ℕ) (whole : length m ≡ 32768)
   unfolding adds replyOf saysOf touches cts sent
   adds-next d small enough = record {
     reply = reply-cond _ (answer.Grant (nextCts (recordOf k ρ) n)) (answer.Taken (record { key = keyAt k; number = record { 0 = n } })) (ctsDue (recordOf k ρ) n) (spent ρ n)
-        (cts k (n + 1) (grant (ρ .told .max) (ρ .told .segments .0 - n)) (ρ .told .pgn)) (plain (R.took (keyAt k) n))
+        (cts k (n + 1) (grant (ρ .told .max) (ρ .told .segments .0 - n)) (ρ .told .pgn)) (plain (P.took (keyAt k) n))
         (spent-same n) (rw (grant-same (ρ .told .max) (ρ .told .segments .0 - n))) refl;
     only = λ j ne. quiet-cond j (ctsDue (recordOf k ρ) n) (answer.Grant (nextCts (recordOf k ρ) n)) (answer.Taken (record { key = keyAt k; number = record { 0 = n } })) refl refl;
     change = inr (record {

@@ -16,7 +16,7 @@ use Rattle.slots.specs.declared.SlotState.the-variants.{Free, Open}
 use Rattle.slots.specs.declared.Found.{Found}
 use Rattle.slots.specs.declared.Found.the-variants.{At, Nothing}
 use Rattle.slots.specs.Slots.{sameKey, freeState, isFree, stateHolds, holdsKey, firstAt, firstFree, keyPlace, freeSlot}
-use Rattle.isolation.specs.Rules.{keyAt}
+use Rattle.isolation.specs.OwnFrames.{keyAt}
 use Rattle.isolation.specs.Observe.{openAt}
 use Rattle.isolation.proofs.Tests.{or-false, clash, and-left, and-right, both, same-test}
 

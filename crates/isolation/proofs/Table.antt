@@ -18,6 +18,7 @@ use Rattle.slots.specs.declared.SlotState.the-variants as is
 use Rattle.receiver.specs.declared.answer.Answer.{Answer}
 use Rattle.receiver.specs.declared.answer.Answer.the-variants.{Groups, Opened, Taken, Grant, HandedOver, Aborted, Ended, RefusedRts, Refused}
 use Rattle.receiver.specs.declared.answer.End.the-variants as end
+use Rattle.receiver.specs.declared.answer.Kept.the-variants as kept
 use Rattle.slots.specs.Slots.{freeSlot}
 use Rattle.slots.specs.Bounds.{slotsOk}
 use Rattle.receiver.specs.Bounds.{inBounds, opened}
@@ -25,40 +26,25 @@ use Rattle.receiver.specs.Calls.{Outcome, takeSlot, announceStep, controlStep, 
 use Rattle.receiver.specs.Answers.{answerNumber}
 
 -- own address 33, limit 1,250, reading 0; the RTS are session 3's, from SA 128, for PGN 65226
-r : Receiver
+pub r : Receiver
 r = opened (record { 0 = 33 }) 1250 0 .receiver
 
-m : List ℕ
+pub m : List ℕ
 m = replicate 32768 0
 
-key : Key
+pub key : Key
 key = record { sa = record { 0 = 128 }; da = record { 0 = 33 }; session = record { 0 = 3 } }
 
 -- Total Bytes, segments: MAX 255, no assurance
-rts : ℕ → ℕ → ℕ → List ℕ
+pub rts : ℕ → ℕ → ℕ → List ℕ
 rts low high segments = 0x30 ∷ low ∷ high ∷ 0 ∷ segments ∷ 0 ∷ 0 ∷ 255 ∷ 0 ∷ 0xCA ∷ 0xFE ∷ 0 ∷ []
 
-toRts : List ℕ → Answer
+pub toRts : List ℕ → Answer
 toRts d = frameAll r 0x1C4D2180 d m .0 .answer
-
--- 61 bytes, 2 segments: CTS 1, 2
-p8 : toRts (rts 61 0 2) ≡ Grant (record { key = key; next = record { 0 = 1 }; count = 2; pgn = 65226 })
-unfolding r m key rts toRts opened inBounds slotsOk frameAll judged byFormat controlStep controlOf announceStep formOf takeSlot grantOf
-p8 = refl
-
--- 61 bytes, 1 segment: 11
-p9 : (toRts (rts 61 0 1) ≡ RefusedRts (record { key = key; refusal = AnnouncementForm; pgn = 65226 })) × (answerNumber (toRts (rts 61 0 1)) ≡ 11)
-unfolding r m key rts toRts opened inBounds slotsOk frameAll judged byFormat controlStep controlOf announceStep formOf takeSlot grantOf
-p9 = (refl, refl)
-
--- 4,097 bytes, 69 segments: 12
-p11 : (toRts (rts 1 16 69) ≡ RefusedRts (record { key = key; refusal = TooLong; pgn = 65226 })) × (answerNumber (toRts (rts 1 16 69)) ≡ 12)
-unfolding r m key rts toRts opened inBounds slotsOk frameAll judged byFormat controlStep controlOf announceStep formOf takeSlot grantOf
-p11 = (refl, refl)
 
 -- ---- the grants of a whole message
 
-countOf : Answer → List ℕ
+pub countOf : Answer → List ℕ
 countOf Groups = []
 countOf (Opened k) = []
 countOf (Taken t) = []
@@ -70,30 +56,25 @@ countOf (RefusedRts j) = []
 countOf (Refused n) = []
 
 -- segment n, of 60 bytes
-dt : ℕ → List ℕ
+pub dt : ℕ → List ℕ
 dt n = 0x30 ∷ n ∷ 0 ∷ 0 ∷ replicate 60 n
 
 -- the counts of the CTS that are sent while c segments come in, from segment n on
-grants : ℕ → ℕ → Receiver → List ℕ → List ℕ
+pub grants : ℕ → ℕ → Receiver → List ℕ → List ℕ
 grants zero n r m = []
 grants (suc c) n r m =
     let o : Outcome = frameAll r 0x1C4E2180 (dt n) m in
     let rest : List ℕ = grants c (n + 1) (o .0 .next) (o .1) in
     countOf (o .0 .answer) ++ rest
 
-allGrants : List ℕ → List ℕ
+pub allGrants : List ℕ → List ℕ
 allGrants d =
     let o : Outcome = frameAll r 0x1C4D2180 d m in
     countOf (o .0 .answer) ++ grants 69 1 (o .0 .next) (o .1)
 
--- 4,096 bytes, 69 segments: grants 16, 16, 16, 16, 5
-p10 : allGrants (rts 0 16 69) ≡ 16 ∷ 16 ∷ 16 ∷ 16 ∷ 5 ∷ []
-unfolding r m key rts opened inBounds slotsOk frameAll judged byFormat controlStep controlOf announceStep formOf takeSlot grantOf allGrants grants countOf dt dataFrameOf segmentStep segmentOpen judgedOf dueOf
-p10 = refl
-
 -- ---- a clock that runs round: mark 4,294,967,290, limit 1,250
 
-session : Session
+pub session : Session
 session =
     record {
       key = key;
@@ -107,7 +88,7 @@ session =
       mark = 4294967290;
     }
 
-held : Receiver
+pub held : Receiver
 held =
     record {
       own = record { 0 = 33 };
@@ -116,13 +97,44 @@ held =
       slots = record { state = is.Open session } ∷ replicate 7 freeSlot;
     }
 
--- reading 1,243: it stays
-p12-stays : (readingStep held 1243 m .ends ≡ replicate 8 stays) × (readingStep held 1243 m .next .slots ≡ held .slots)
-unfolding m key session held inBounds slotsOk readingStep elapsed
-p12-stays = (refl, refl)
+-- ---- the rows, as one statement
 
--- reading 1,244: it ends with 22
-p12-ends : (readingStep held 1244 m .ends ≡ record { end = end.Ended (endingOf session Silence) } ∷ replicate 7 stays)
-    × (readingStep held 1244 m .next .slots ≡ replicate 8 freeSlot)
-unfolding m key session held inBounds slotsOk readingStep elapsed
-p12-ends = (refl, refl)
+pub record Rows : Type 0 where
+  -- 61 bytes, 2 segments: CTS 1, 2
+  pub p8 : toRts (rts 61 0 2) ≡ Grant (record { key = key; next = record { 0 = 1 }; count = 2; pgn = 65226 })
+  -- 61 bytes, 1 segment: 11
+  pub p9 : toRts (rts 61 0 1) ≡ RefusedRts (record { key = key; refusal = AnnouncementForm; pgn = 65226 })
+  pub p9-number : answerNumber (toRts (rts 61 0 1)) ≡ 11
+  -- 4,096 bytes, 69 segments: grants 16, 16, 16, 16, 5
+  pub p10 : allGrants (rts 0 16 69) ≡ 16 ∷ 16 ∷ 16 ∷ 16 ∷ 5 ∷ []
+  -- 4,097 bytes, 69 segments: 12
+  pub p11 : toRts (rts 1 16 69) ≡ RefusedRts (record { key = key; refusal = TooLong; pgn = 65226 })
+  pub p11-number : answerNumber (toRts (rts 1 16 69)) ≡ 12
+  -- reading 1,243: it stays
+  pub p12-stays : readingStep held 1243 m
+      ≡ record {
+        next = record { own = held .own; limit = 1250; last = 1243; slots = held .slots };
+        answer = kept.Kept;
+        ends = replicate 8 stays;
+      }
+  -- reading 1,244: it ends with 22
+  pub p12-ends : readingStep held 1244 m
+      ≡ record {
+        next = record { own = held .own; limit = 1250; last = 1244; slots = replicate 8 freeSlot };
+        answer = kept.Kept;
+        ends = record { end = end.Ended (endingOf session Silence) } ∷ replicate 7 stays;
+      }
+
+pub rows : Rows
+unfolding r m key rts toRts opened inBounds slotsOk frameAll judged byFormat controlStep controlOf announceStep formOf takeSlot grantOf allGrants grants countOf dt dataFrameOf segmentStep segmentOpen judgedOf dueOf session held readingStep elapsed
+rows =
+    record {
+      p8 = refl;
+      p9 = refl;
+      p9-number = refl;
+      p10 = refl;
+      p11 = refl;
+      p11-number = refl;
+      p12-stays = refl;
+      p12-ends = refl;
+    }

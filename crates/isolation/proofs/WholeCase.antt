@@ -18,7 +18,9 @@ use Rattle.receiver.specs.declared.answer.Opening.the-variants.{Accepted}
 use Rattle.slots.specs.Bounds.{slotsOk}
 use Rattle.receiver.specs.Bounds.{inBounds, opened}
 use Rattle.receiver.specs.Calls.{takeSlot, announceStep, controlStep, segmentOpen, segmentStep, frameAll, readingStep}
-use Rattle.isolation.specs.Rules.{Values, keyAt, answer, reading, granted, ended, frameKey, bodyOf, taken, controlBody, dataBody}
+use Rattle.isolation.specs.OwnFrames.{keyAt, frameKey, bodyOf, taken, controlBody, dataBody}
+use Rattle.isolation.specs.Replies.{granted, ended}
+use Rattle.isolation.specs.Rules.{answer, reading}
 use Rattle.isolation.specs.World.{Call, lent, frame, clock}
 use Rattle.isolation.specs.Observe.{observed, shows, recordAfter, storeAfter, frameSeen, isOwn, isBody, strays, lost, openIn, touches, replyOf, saysOf, readingSeen, keptNumber, endingsOf, endingOf}
 

@@ -1,3 +1,5 @@
+pub mod OwnFrames
+pub mod Replies
 pub mod Rules
 pub mod World
 pub mod Observe

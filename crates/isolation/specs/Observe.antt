@@ -21,7 +21,9 @@ use Rattle.receiver.specs.declared.answer.Kept.the-variants as kept
 use Rattle.receiver.specs.declared.answer.Elapsed.{Elapsed}
 use Rattle.receiver.specs.Calls.{Outcome, frameAll, readingStep}
 use Rattle.receiver.specs.Answers.{answerNumber, answerSends, endSends, wireOf, messageBytes}
-use Rattle.isolation.specs.Rules.{Values, keyAt, frameKey, Body, bodyOf, Reply, Says, nothing, opened, took, granted, handed, aborted, ended, rejected, Seen, answer, reading, stray}
+use Rattle.isolation.specs.OwnFrames.{keyAt, frameKey, Body, bodyOf}
+use Rattle.isolation.specs.Replies.{Reply, Says, nothing, opened, took, granted, handed, aborted, ended, rejected}
+use Rattle.isolation.specs.Rules.{Values, Seen, answer, reading, stray}
 use Rattle.isolation.specs.World.{frame, clock, Call, lent, elsewhere}
 
 -- ---- keys
@@ -163,3 +165,12 @@ storeAfter r m (elsewhere b e c) = m
 unfoldable pub observed : Values → ℕ → Receiver → List ℕ → List Call → List Seen
 observed v k r m [] = []
 observed v k r m (c ∷ cs) = shows v k r m c ++ observed v k (recordAfter r m c) (storeAfter r m c) cs
+
+-- the record and the store after a list of calls
+unfoldable pub recordOver : Receiver → List ℕ → List Call → Receiver
+recordOver r m [] = r
+recordOver r m (c ∷ cs) = recordOver (recordAfter r m c) (storeAfter r m c) cs
+
+unfoldable pub storeOver : Receiver → List ℕ → List Call → List ℕ
+storeOver r m [] = m
+storeOver r m (c ∷ cs) = storeOver (recordAfter r m c) (storeAfter r m c) cs

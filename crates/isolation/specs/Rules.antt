@@ -1,5 +1,5 @@
 -- One session by itself: 01, "One session by itself", with the checks, answers and marks of "Life of a session". One key; no slots, no
--- store. Taken from other crates: where the bytes of a frame stand, the PGN rule, the frames written and their wire reasons.
+-- store.
 use Prim.Native.Nat.{ℕ, zero, suc, _+_, _-_, _*_, _/_, _%_, _^_}
 use mathlib.Core.Bool.{Bool, true, false, cond, not, _&&_, _||_}
 use mathlib.Core.Option.{Option, none, some}
@@ -7,163 +7,18 @@ use mathlib.Core.List.{List, [], _∷_, _++_}
 use lib.Dec.{eqb, leb, ltb}
 use lib.ListN.{length, take}
 use Rattle.frame.specs.declared.Address.{Address}
-use Rattle.frame.specs.Identifiers.{identifierOf}
-use Rattle.frame.specs.Lengths.{isLength}
 use Rattle.frame.specs.Pgn.{pgnOk}
-use Rattle.transport.specs.declared.Key.{Key}
 use Rattle.transport.specs.declared.Kind.{Kind}
 use Rattle.transport.specs.declared.Kind.the-variants.{Rts, Bam}
 use Rattle.transport.specs.declared.control.Announcement.{Announcement}
 use Rattle.transport.specs.declared.control.Status.{Status}
-use Rattle.transport.specs.declared.response.Response.{Response}
-use Rattle.transport.specs.declared.response.Response.the-variants as response
-use Rattle.transport.specs.Control.{controlAt, sessionAt, announcementAt, statusAt, roleAt, abortPgnAt}
-use Rattle.transport.specs.Segments.{formatAt, numberAt, dataAt}
-use Rattle.transport.specs.Responses.{responseBytes, responseId}
-use Rattle.transport.specs.Reasons.{reasonOf}
-
--- ---- keys: SA, DA and session number, as one number below 2^20
-
-abbrev pub allKeys : ℕ
-allKeys = 1048576
-
-abbrev pub keyAt : ℕ → Key
-keyAt k =
-    record { sa = record { 0 = k / 4096 }; da = record { 0 = k / 16 % 256 }; session = record { 0 = k % 16 } }
-
--- the key of a control or data frame, by its identifier and its bytes
-unfoldable pub frameKey : ℕ → List ℕ → ℕ
-frameKey id d = identifierOf id .sa .0 * 4096 + identifierOf id .ps * 16 + sessionAt d
-
--- ---- own frames: control and data frames to which none of 2, 1, 3, 9 and 10 applies
+use Rattle.isolation.specs.OwnFrames.{keyAt, isRts, Body, announce, segment, status, abort}
+use Rattle.isolation.specs.Replies.{Reply, opened, took, aborted, refuse, reject, ending, cts, plain, handOver}
 
 -- the opening values
 pub record Values : Type 0 where
   pub own : Address
   pub limit : ℕ
-
-pub data Body : Type 0 where
-  -- RTS or BAM
-  announce : Announcement → Body
-  -- format indicator, segment number, the bytes from byte 5 on
-  segment : ℕ → ℕ → List ℕ → Body
-  -- EOMS
-  status : Status → Body
-  -- an Abort from the originator, with its PGN
-  abort : ℕ → Body
-
--- RTS 0, BAM 4, EOMS 2, Abort 15 in the originator's role, in 12 bytes
-unfoldable pub controlBody : List ℕ → Option Body
-controlBody d =
-    cond (not (eqb (length d) 12)) none
-    (cond (eqb (controlAt d) 0) (some (announce (announcementAt Rts d)))
-    (cond (eqb (controlAt d) 4) (some (announce (announcementAt Bam d)))
-    (cond (eqb (controlAt d) 2) (some (status (statusAt d)))
-    (cond (eqb (controlAt d) 15 && eqb (roleAt d) 0) (some (abort (abortPgnAt d)))
-    none))))
-
--- a data frame has 5 bytes at least
-unfoldable pub dataBody : List ℕ → Option Body
-dataBody d = cond (ltb (length d) 5) none (some (segment (formatAt d) (numberAt d) (dataAt d)))
-
--- 29 bits; a CAN FD length; both pages 0; DA the own address or 255; SA not 254, 255 or the own address
-unfoldable pub taken : Address → ℕ → List ℕ → Bool
-taken own id d =
-    ltb id (2 ^ 29)
-    && (isLength (length d)
-    && (eqb (identifierOf id .extended_data_page) 0
-    && (eqb (identifierOf id .data_page) 0
-    && ((eqb (identifierOf id .ps) (own .0) || eqb (identifierOf id .ps) 255)
-    && (ltb (identifierOf id .sa .0) 254
-    && not (eqb (identifierOf id .sa .0) (own .0)))))))
-
--- what an own frame says; none for any other frame. PF 77 is a control frame, 78 a data frame
-unfoldable pub bodyOf : Address → ℕ → List ℕ → Option Body
-bodyOf own id d =
-    cond (not (taken own id d)) none
-    (cond (eqb (identifierOf id .pf) 77) (controlBody d)
-    (cond (eqb (identifierOf id .pf) 78) (dataBody d)
-    none))
-
--- ---- replies: 01's number (0 where nothing is refused), the values, and the frame sent, as identifier and bytes, or none
-
-abbrev pub Wire : Type 0
-Wire = ℕ × List ℕ
-
-pub data Says : Type 0 where
-  nothing : Says
-  -- a BAM was accepted
-  opened : Key → Says
-  -- a segment was taken, with no CTS due: its number
-  took : Key → ℕ → Says
-  -- a CTS: next segment, count, PGN
-  granted : Key → ℕ → ℕ → ℕ → Says
-  -- a message: Total Bytes, segments, PGN, and its bytes
-  handed : Key → Kind → ℕ → ℕ → ℕ → List ℕ → Says
-  -- the originator's Abort ended the session
-  aborted : Key → Says
-  -- a refusal ended the session: its PGN
-  ended : Key → Kind → ℕ → Says
-  -- an RTS to the own address was refused: its PGN as it came
-  rejected : Key → ℕ → Says
-
-pub record Reply : Type 0 where
-  pub number : ℕ
-  pub says : Says
-  pub sends : Option Wire
-
-unfoldable pub sent : Response → Option Wire
-sent f = some (responseId f, responseBytes f)
-
--- an Abort for a refusal, by its number
-abbrev pub abortFrame : ℕ → ℕ → ℕ → Response
-abortFrame k n pgn = response.Abort (record { key = keyAt k; reason = reasonOf n; pgn = pgn })
-
-abbrev pub ctsFrame : ℕ → ℕ → ℕ → ℕ → Response
-ctsFrame k next count pgn = response.Cts (record { key = keyAt k; next = record { 0 = next }; count = count; pgn = pgn })
-
-abbrev pub eomaFrame : ℕ → Announcement → Response
-eomaFrame k a = response.Eoma (record { key = keyAt k; total = a .total; segments = a .segments; pgn = a .pgn })
-
-unfoldable pub isRts : Kind → Bool
-isRts Rts = true
-isRts Bam = false
-
--- a refusal by which nothing is sent
-abbrev pub refuse : ℕ → Reply
-refuse n = record { number = n; says = nothing; sends = none }
-
--- an announcement refused: an RTS is answered by Abort, a BAM by nothing
-unfoldable pub reject : ℕ → Announcement → ℕ → Reply
-reject k a n =
-    cond (isRts (a .kind))
-    (record { number = n; says = rejected (keyAt k) (a .pgn); sends = sent (abortFrame k n (a .pgn)) })
-    (refuse n)
-
--- the session ends by a refusal: RTS sessions send Abort
-unfoldable pub ending : ℕ → Announcement → ℕ → Reply
-ending k a n =
-    record {
-      number = n;
-      says = ended (keyAt k) (a .kind) (a .pgn);
-      sends = cond (isRts (a .kind)) (sent (abortFrame k n (a .pgn))) none;
-    }
-
-unfoldable pub cts : ℕ → ℕ → ℕ → ℕ → Reply
-cts k next count pgn =
-    record { number = 0; says = granted (keyAt k) next count pgn; sends = sent (ctsFrame k next count pgn) }
-
-abbrev pub plain : Says → Reply
-plain s = record { number = 0; says = s; sends = none }
-
--- the message, with EOMA for RTS
-unfoldable pub handOver : ℕ → Announcement → List ℕ → Reply
-handOver k a bytes =
-    record {
-      number = 0;
-      says = handed (keyAt k) (a .kind) (a .total .0) (a .segments .0) (a .pgn) bytes;
-      sends = cond (isRts (a .kind)) (sent (eomaFrame k a)) none;
-    }
 
 -- ---- state: the last reading; closed, or open with the fields announced, mark, last granted and the data taken by segment number
 

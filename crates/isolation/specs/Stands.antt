@@ -7,7 +7,8 @@ use Rattle.receiver.specs.declared.Receiver.{Receiver}
 use Rattle.slots.specs.declared.SlotState.{SlotState}
 use Rattle.slots.specs.declared.SlotState.the-variants as slot
 use Rattle.slots.specs.Slots.{keyPlace, freeSlot, onFound}
-use Rattle.isolation.specs.Rules.{Values, keyAt, Open, Piece, due}
+use Rattle.isolation.specs.OwnFrames.{keyAt}
+use Rattle.isolation.specs.Rules.{Values, Open, Piece, due}
 use Rattle.isolation.specs.World.{World}
 
 abbrev pub valuesOf : Receiver → Values

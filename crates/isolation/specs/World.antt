@@ -6,7 +6,8 @@ use mathlib.Core.Option.{Option, none, some}
 use mathlib.Core.List.{List, [], _∷_, _++_}
 use lib.Dec.{eqb, leb}
 use lib.ListN.{length}
-use Rattle.isolation.specs.Rules.{allKeys, frameKey, Values, Body, announce, segment, status, abort, bodyOf, State, isOpen, Input, mine, now, nextState}
+use Rattle.isolation.specs.OwnFrames.{allKeys, frameKey, Body, announce, segment, status, abort, bodyOf}
+use Rattle.isolation.specs.Rules.{Values, State, isOpen, Input, mine, now, nextState}
 
 -- ---- calls as they are made
 
