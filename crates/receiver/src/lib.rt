@@ -1,8 +1,14 @@
 // The receiver: eight slots over one lent store (01, "Life of a session").
+ghost use mathlib.Core.Bool.{_&&_};
 ghost use mathlib.Core.Path.{_≡_};
+ghost use lib.Dec.{eqb};
 ghost use Rattle.receiver.specs.Bounds.{inBounds, opened};
 
+pub mod announce;
 pub mod answer;
+pub mod call;
+pub mod end;
+pub mod segment;
 pub mod step;
 
 use answer::Opened;
@@ -60,5 +66,11 @@ impl Receiver {
     {
         let slots = self.slots;
         bounds::opening_ok(self.own, self.limit) & bounds::slots_ok(slots, self.own)
+    }
+    // Whether the record is in bounds, and a store of so many bytes has the right length: 23 if not.
+    fn is_ready(self, bytes: usize) -> bool
+        ensures { λ x. ⌜ x ≡ (eqb bytes 32768 && inBounds self) ⌝ }
+    {
+        (bytes == Receiver::SLOTS * Receiver::SLOT_BYTES) & self.in_bounds()
     }
 }
