@@ -18,3 +18,4 @@ pub mod Demand3
 pub mod Message
 pub mod Table
 pub mod WholeCase
+pub mod WholeTable
