@@ -7,6 +7,7 @@ ghost use Rattle.receiver.specs.Bounds.{inBounds, opened};
 pub mod announce;
 pub mod answer;
 pub mod call;
+pub mod clock;
 pub mod end;
 pub mod segment;
 pub mod step;
