@@ -1,0 +1,64 @@
+-- Bytes put into a list at a place: what a lent buffer holds after a write, the bytes around it included.
+use Prim.Native.Nat.{ℕ, suc, _+_, _-_, _<_, _≤_}
+use native.Mathlib.Numerals.{add-one}
+use native.Mathlib.Nat.{add-assoc, add-zero}
+use native.Mathlib.Omega.{arith}
+use mathlib.Core.Path.{_≡_, refl, sym, ap, _∙_}
+use mathlib.Core.List.{List, [], _∷_, _++_, append-assoc, append-nil}
+use lib.ListN.{length, getD, set, take, drop, length-append, length-take, length-drop, take-append-drop}
+use lib.Seq.{take-at, drop-at, drop-drop, length-take-le, set-split, set-at, take-suc, append-snoc}
+
+-- x in the place of as many elements from at on
+unfoldable pub put : List ℕ → ℕ → List ℕ → List ℕ
+put d at x = take at d ++ (x ++ drop (at + length x) d)
+
+pub put-nil : (d : List ℕ) (at : ℕ) → put d at [] ≡ d
+unfolding put
+put-nil d at = ap (λ (k : ℕ). take at d ++ drop k d) (add-zero at) ∙ take-append-drop at d
+
+pub length-put : (d : List ℕ) (at : ℕ) (x : List ℕ) → at + length x ≤ length d → length (put d at x) ≡ length d
+unfolding put
+length-put d at x h =
+    simp (length-append, length-drop) (ap (λ (k : ℕ). k + (length x + (length d - (at + length x)))) (length-take-le at d (omega arith)) ∙ omega arith)
+
+module _ (d : List ℕ) (at : ℕ) (x : List ℕ) (inside : at ≤ length d) where
+  front : length (take at d ++ x) ≡ at + length x
+  front = length-append (take at d) x ∙ ap (λ (k : ℕ). k + length x) (length-take-le at d inside)
+
+  put-take : take (at + length x) (put d at x) ≡ take at d ++ x
+  unfolding put
+  put-take = ap (take (at + length x)) (sym (append-assoc (take at d) x (drop (at + length x) d))) ∙ take-at (take at d ++ x) (drop (at + length x) d) (at + length x) front
+
+  put-drop : drop (at + length x) (put d at x) ≡ drop (at + length x) d
+  unfolding put
+  put-drop = ap (drop (at + length x)) (sym (append-assoc (take at d) x (drop (at + length x) d))) ∙ drop-at (take at d ++ x) (drop (at + length x) d) (at + length x) front
+
+  -- what is put right behind goes with it
+  pub put-put : (y : List ℕ) → put (put d at x) (at + length x) y ≡ put d at (x ++ y)
+  unfolding put
+  put-put y =
+      let e : drop (at + length x + length y) (put d at x) ≡ drop (at + length (x ++ y)) d =
+      sym (drop-drop (length y) (at + length x) (put d at x))
+      ∙ ap (drop (length y)) put-drop
+      ∙ drop-drop (length y) (at + length x) d
+      ∙ ap (λ (k : ℕ). drop k d) (add-assoc at (length x) (length y) ∙ ap (λ (k : ℕ). at + k) (sym (length-append x y))) in
+      ap (λ (l : List ℕ). l ++ (y ++ drop (at + length x + length y) (put d at x))) put-take
+      ∙ append-assoc (take at d) x (y ++ drop (at + length x + length y) (put d at x))
+      ∙ ap (λ (l : List ℕ). take at d ++ (x ++ (y ++ l))) e
+      ∙ ap (λ (l : List ℕ). take at d ++ l) (sym (append-assoc x y (drop (at + length (x ++ y)) d)))
+
+pub put-one : (d : List ℕ) (at v : ℕ) → at < length d → set d at v ≡ put d at (v ∷ [])
+unfolding put
+put-one d at v h = set-split d at v h ∙ ap (λ (k : ℕ). take at d ++ (v ∷ drop k d)) (sym (add-one at))
+
+-- one more in front
+pub put-before : (d : List ℕ) (i v : ℕ) (x : List ℕ) → i < length d → set (put d (i + 1) x) i v ≡ put d i (v ∷ x)
+unfolding put
+put-before d i v x h =
+    let tail : List ℕ = x ++ drop (i + 1 + length x) d in
+    let e : take (i + 1) d ++ tail ≡ take i d ++ (getD d i 0 ∷ tail) =
+    ap (λ (k : ℕ). take k d ++ tail) (add-one i) ∙ ap (λ (l : List ℕ). l ++ tail) (take-suc d i 0 h) ∙ append-snoc (take i d) (getD d i 0) tail in
+    let q : i + 1 + length x ≡ i + suc (length x) = omega arith in
+    ap (λ (l : List ℕ). set l i v) e
+    ∙ set-at (take i d) (getD d i 0) tail v i (length-take-le i d (omega arith))
+    ∙ ap (λ (k : ℕ). take i d ++ (v ∷ (x ++ drop k d))) q

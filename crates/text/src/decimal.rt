@@ -1,0 +1,35 @@
+// Numbers in decimal.
+ghost use mathlib.Core.Path.{_≡_};
+ghost use Prim.Native.Nat.{_+_, _≤_};
+ghost use lib.ListN.{length};
+ghost use Rattle.text.specs.Decimal.{widthOf, decimal};
+ghost use Rattle.text.specs.Put.{put};
+
+// How many digits a number has.
+pub fn width(n: u64) -> usize
+    ensures { λ r. ⌜ r ≡ widthOf n ⌝ }
+{
+    let mut left = n;
+    let mut digits: usize = 1;
+    while 10 <= left {
+        left = left / 10;
+        digits = digits + 1;
+    }
+    digits
+}
+
+// The digits of a number, from the last to the first. The caller has seen that there is room.
+pub fn put_number(out: &mut [u8], at: usize, n: u64) -> usize
+    requires { ⌜ at + length (decimal n) ≤ length (now out) ⌝ }
+    ensures { λ r. ⌜ (r ≡ at + length (decimal n)) × (now (out .exit) ≡ put (now (out .entry)) at (decimal n)) ⌝ }
+{
+    let end = at + width(n);
+    let mut left = n;
+    let mut i = end;
+    while at < i {
+        i = i - 1;
+        out[i] = (48 + left % 10) as u8;
+        left = left / 10;
+    }
+    end
+}
