@@ -62,3 +62,60 @@ put-before d i v x h =
     ap (λ (l : List ℕ). set l i v) e
     ∙ set-at (take i d) (getD d i 0) tail v i (length-take-le i d (omega arith))
     ∙ ap (λ (k : ℕ). take i d ++ (v ∷ (x ++ drop k d))) q
+
+-- ---- what a write leaves: x stands from at on, the rest as it was, and the next place is behind it
+pub record PutAt (d : List ℕ) (at : ℕ) (x : List ℕ) (next : ℕ) (out : List ℕ) : Type 0 where
+  pub place : next ≡ at + length x
+  pub bytes : out ≡ put d at x
+
+pub put-set : (d : List ℕ) (at v : ℕ) → at < length d → PutAt d at (v ∷ []) (at + 1) (set d at v)
+put-set d at v h = record { place = refl; bytes = put-one d at v h }
+
+module _ (d : List ℕ) (at : ℕ) (x : List ℕ) (p : ℕ) (o : List ℕ) (room : at + length x ≤ length d) (w : PutAt d at x p o) where
+  pub put-same : length o ≡ length d
+  put-same = ap length (w .bytes) ∙ length-put d at x room
+
+  pub put-then : (y : List ℕ) (q : ℕ) (e : List ℕ) → PutAt o p y q e → PutAt d at (x ++ y) q e
+  put-then y q e v =
+      let a : p ≡ at + length x = w .place in
+      let b : q ≡ p + length y = v .place in
+      record {
+        place = simp length-append (omega arith);
+        bytes = v .bytes ∙ ap (λ (k : ℕ). put o k y) a ∙ ap (λ (l : List ℕ). put l (at + length x) y) (w .bytes) ∙ put-put d at x (omega arith) y;
+      }
+
+-- ---- a loop that writes: what is left to write at p, and it makes the whole
+pub record Going (d : List ℕ) (at : ℕ) (whole : List ℕ) (out : List ℕ) (p : ℕ) (rest : List ℕ) : Type 0 where
+  pub place : p + length rest ≡ at + length whole
+  pub bytes : put out p rest ≡ put d at whole
+  pub same : length out ≡ length d
+
+module _ (d : List ℕ) (at : ℕ) (w : List ℕ) where
+  pub going-start : Going d at w d at w
+  going-start = record { place = refl; bytes = refl; same = refl }
+
+  pub going-end : (o : List ℕ) (p : ℕ) → Going d at w o p [] → PutAt d at w p o
+  going-end o p g =
+      let a : p + 0 ≡ at + length w = g .place in record { place = omega arith; bytes = sym (put-nil o p) ∙ g .bytes }
+
+  module _ (room : at + length w ≤ length d) (o : List ℕ) (p : ℕ) (x y : List ℕ) (g : Going d at w o p (x ++ y)) where
+    -- there is room for the part that is next
+    pub going-room : p + length x ≤ length o
+    going-room =
+        let a : p + length (x ++ y) ≡ at + length w = g .place in
+        let b : length (x ++ y) ≡ length x + length y = length-append x y in
+        let c : length o ≡ length d = g .same in
+        omega arith
+
+    pub going-on : (q : ℕ) (e : List ℕ) → PutAt o p x q e → Going d at w e q y
+    going-on q e v =
+        let a : p + length (x ++ y) ≡ at + length w = g .place in
+        let b : length (x ++ y) ≡ length x + length y = length-append x y in
+        let c : length o ≡ length d = g .same in
+        let k : q ≡ p + length x = v .place in
+        let r : p + length x ≤ length o = going-room in
+        record {
+          place = omega arith;
+          bytes = ap (λ (j : ℕ). put e j y) k ∙ ap (λ (l : List ℕ). put l (p + length x) y) (v .bytes) ∙ put-put o p x (omega arith) y ∙ g .bytes;
+          same = ap length (v .bytes) ∙ length-put o p x r ∙ c;
+        }

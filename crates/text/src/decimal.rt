@@ -3,7 +3,7 @@ ghost use mathlib.Core.Path.{_≡_};
 ghost use Prim.Native.Nat.{_+_, _≤_};
 ghost use lib.ListN.{length};
 ghost use Rattle.text.specs.Decimal.{widthOf, decimal};
-ghost use Rattle.text.specs.Put.{put};
+ghost use Rattle.text.specs.Put.{PutAt};
 
 // How many digits a number has.
 pub fn width(n: u64) -> usize
@@ -21,7 +21,7 @@ pub fn width(n: u64) -> usize
 // The digits of a number, from the last to the first. The caller has seen that there is room.
 pub fn put_number(out: &mut [u8], at: usize, n: u64) -> usize
     requires { ⌜ at + length (decimal n) ≤ length (now out) ⌝ }
-    ensures { λ r. ⌜ (r ≡ at + length (decimal n)) × (now (out .exit) ≡ put (now (out .entry)) at (decimal n)) ⌝ }
+    ensures { λ r. ⌜ PutAt (now (out .entry)) at (decimal n) r (now (out .exit)) ⌝ }
 {
     let end = at + width(n);
     let mut left = n;

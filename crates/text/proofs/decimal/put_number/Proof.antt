@@ -7,7 +7,7 @@ use lib.ListN.{length, set, drop, length-drop, length-set}
 use lib.Seq.{drop-at, drop-length}
 use borrow.Author.Needs.{needs}
 use Rattle.text.specs.Decimal.{widthOf, decimal, digitsOf, length-decimal, length-digits}
-use Rattle.text.specs.Put.{put, put-nil, put-before, length-put}
+use Rattle.text.specs.Put.{put, PutAt, put-nil, put-before, length-put}
 use Rattle.text.proofs.decimal.put_number.Statement.{statement}
 use Rattle.text.proofs.decimal.put_number.Tie as tie
 use Rattle.text.proofs.decimal.put_number.Reads as reads
@@ -82,12 +82,12 @@ module _ (d : List ℕ) (at n end : ℕ) where
             todo = split ∙ ap (λ (l : List ℕ). digitsOf (i - 1 - at) (left / 10) ++ l) (sym behind);
           }
 
-    ended : i ≤ at → (end ≡ at + length (decimal n)) × (out ≡ put d at (decimal n))
+    ended : i ≤ at → PutAt d at (decimal n) end out
     ended h =
         let a : at ≤ i = w .low in
         let e : i ≡ at = omega arith in
         let z : i - at ≡ 0 = omega arith in
-        (w .ends, w .done ∙ ap (λ (j : ℕ). put d j (drop (i - at) (decimal n))) e ∙ ap (λ (j : ℕ). put d at (drop j (decimal n))) z)
+        record { place = w .ends; bytes = w .done ∙ ap (λ (j : ℕ). put d j (drop (i - at) (decimal n))) e ∙ ap (λ (j : ℕ). put d at (drop j (decimal n))) z }
 
 abbrev Inv-loop : tie.InvT-loop
 Inv-loop out₀ at n end left₀ i₀ out left i = Writing out₀ at n end out left i

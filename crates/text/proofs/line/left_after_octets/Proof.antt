@@ -1,0 +1,82 @@
+use borrow.Author.Needs.{needs}
+use Prim.Native.Nat.{ℕ, _+_, _-_, _≤_}
+use native.Mathlib.Omega.{arith}
+use mathlib.Core.Path.{_≡_, refl, sym, ap, subst, _∙_}
+use lib.ListN.{length, getD, drop}
+use Rattle.text.specs.Decimal.{widthOf}
+use Rattle.text.specs.Line.{numbers, leftBy}
+use Rattle.text.proofs.Loops.{left-stop, left-on, left-out}
+use Rattle.text.proofs.line.left_after_octets.Statement.{statement}
+use Rattle.text.proofs.line.left_after_octets.Tie as tie
+use Rattle.text.proofs.line.left_after_octets.Reads as reads
+use Rattle.text.proofs.line.left_after_octets.Lts as lts
+use Rattle.text.proofs.decimal.width.Reads as width-reads
+use Rattle.text.proofs.line.wide.Reads as wide-reads
+
+abbrev Inv-loop : tie.InvT-loop
+Inv-loop room octets left₀ i₀ left i = (i ≤ length octets) × (leftBy left (length (numbers (drop i octets))) ≡ leftBy room (length (numbers octets)))
+
+abbrev μ-loop : tie.MeasureT-loop
+μ-loop room octets left₀ i₀ left i = length octets - i
+
+-- src/line.rt:92:5
+loop-holds : tie.Need-loop-holds Inv-loop μ-loop
+loop-holds c = (omega arith, refl)
+
+-- src/line.rt:93:33
+shared-slice-read-wide : tie.Need-shared-slice-read-wide Inv-loop μ-loop
+shared-slice-read-wide c = search needs
+
+-- src/line.rt:93:28
+wide-requires : tie.Need-wide-requires Inv-loop μ-loop
+wide-requires c κs = search needs
+
+-- src/line.rt:93:13
+width-requires : tie.Need-width-requires Inv-loop μ-loop
+width-requires c κs = search needs
+
+-- src/line.rt:95:13
+returns : tie.Need-returns Inv-loop μ-loop
+returns c = left-stop _ _ _ _ (c .before .before .before .before .before .loop .inv .1) (c .before .before .before .before .loop-test .taken) _ (c .before .width .ensures ∙ ap widthOf (c .before .before .wide .ensures)) (c .if1 .taken)
+
+-- src/line.rt:97:16
+sub-left : tie.Need-sub-left Inv-loop μ-loop
+sub-left c = search needs
+
+-- src/line.rt:97:16
+sub-left-2 : tie.Need-sub-left-2 Inv-loop μ-loop
+sub-left-2 c = search needs
+
+-- src/line.rt:98:13
+add-i : tie.Need-add-i Inv-loop μ-loop
+add-i c = search needs
+
+-- src/line.rt:92:5
+loop-less : tie.Need-loop-less Inv-loop μ-loop
+loop-less c = search needs
+
+-- src/line.rt:92:5
+loop-again : tie.Need-loop-again Inv-loop μ-loop
+loop-again c = (omega arith, left-on _ _ _ _ (c .before .before .before .before .before .loop .inv .1) (c .before .before .before .before .loop-test .taken) _ (c .before .width .ensures ∙ ap widthOf (c .before .before .wide .ensures)) (c .if1 .left))
+
+-- src/line.rt:87:1
+returns-2 : tie.Need-returns-2 Inv-loop μ-loop
+returns-2 c = left-out _ _ _ _ (c .before .loop .inv .1) (c .loop-test .left)
+
+pub left-after-octets-spec : {M : Type 1} → statement M
+left-after-octets-spec =
+    tie.close
+    (tie.spec
+    Inv-loop
+    μ-loop
+    loop-holds
+    shared-slice-read-wide
+    wide-requires
+    width-requires
+    returns
+    sub-left
+    sub-left-2
+    add-i
+    loop-less
+    loop-again
+    returns-2)
