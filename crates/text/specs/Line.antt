@@ -6,10 +6,10 @@ use mathlib.Core.Bool.{Bool, true, false, cond}
 use mathlib.Core.List.{List, [], _∷_, _++_, append-assoc}
 use lib.Dec.{leb, ltb}
 use lib.ListN.{length, length-append}
-use borrow.Author.Tests.{lt-ltb, le-ltb, le-leb, lt-leb}
+use borrow.Author.Tests.{lt-ltb, le-ltb, ltb-true, ltb-false, le-leb, lt-leb}
 use Rattle.laws.specs.Choice.{then, else}
 use Rattle.text.specs.Decimal.{decimal, widthOf, length-decimal}
-use Rattle.text.specs.Put.{put}
+use Rattle.text.specs.Put.{put, PutAt}
 use Rattle.text.specs.declared.Left.{Left}
 use Rattle.text.specs.declared.Left.the-variants as left
 use Rattle.text.specs.declared.Wrote.{Wrote}
@@ -29,6 +29,43 @@ lineOf word ns = word ++ (numbers ns ++ (10 ∷ []))
 unfoldable pub leftBy : ℕ → ℕ → Left
 leftBy room n = cond (ltb room n) left.Short (left.Enough (room - n))
 
+module _ (room n : ℕ) where
+  pub left-short : room < n → left.Short ≡ leftBy room n
+  unfolding leftBy
+  left-short h = then (ltb room n) _ _ _ (lt-ltb room n h) refl
+
+  pub left-enough : n ≤ room → left.Enough (room - n) ≡ leftBy room n
+  unfolding leftBy
+  left-enough h = else (ltb room n) _ _ _ (le-ltb room n h) refl
+
+-- what n leaves, and then m of that
+pub left-then : (room n m : ℕ) → n ≤ room → leftBy (room - n) m ≡ leftBy room (n + m)
+left-then room n m h = go (ltb (room - n) m) refl
+  where
+    go : (t : Bool) → ltb (room - n) m ≡ t → leftBy (room - n) m ≡ leftBy room (n + m)
+    go true e =
+        let k : room - n < m = ltb-true _ _ e in
+        sym (left-short (room - n) m k) ∙ left-short room (n + m) (omega arith)
+    go false e =
+        let k : m ≤ room - n = ltb-false _ _ e in
+        let q : room - n - m ≡ room - (n + m) = omega arith in
+        sym (left-enough (room - n) m k) ∙ ap left.Enough q ∙ left-enough room (n + m) (omega arith)
+
+module _ (room n : ℕ) where
+  pub short-of : leftBy room n ≡ left.Short → room < n
+  short-of e = go (ltb room n) refl
+    where
+      go : (t : Bool) → ltb room n ≡ t → room < n
+      go true p = ltb-true _ _ p
+      go false p = let z : _≡_ {A = Left} left.Short (left.Enough (room - n)) = sym e ∙ sym (left-enough room n (ltb-false _ _ p)) in absurd (let q : _≡_ {A = ℕ} 0 1 = cc in omega arith)
+
+  pub enough-of : (l : ℕ) → leftBy room n ≡ left.Enough l → (n ≤ room) × (l ≡ room - n)
+  enough-of l e = go (ltb room n) refl
+    where
+      go : (t : Bool) → ltb room n ≡ t → (n ≤ room) × (l ≡ room - n)
+      go true p = let z : _≡_ {A = Left} left.Short (left.Enough l) = left-short room n (ltb-true _ _ p) ∙ e in absurd (let q : _≡_ {A = ℕ} 0 1 = cc in omega arith)
+      go false p = let z : _≡_ {A = Left} (left.Enough (room - n)) (left.Enough l) = left-enough room n (ltb-false _ _ p) ∙ e in (ltb-false _ _ p, (cc))
+
 -- ---- a write that looks first: with room for all of x it is put there and the next place told, else nothing is written
 abbrev pub fits : List ℕ → ℕ → List ℕ → Bool
 fits d at x = leb (at + length x) (length d)
@@ -36,3 +73,14 @@ fits d at x = leb (at + length x) (length d)
 pub record Placed (d : List ℕ) (at : ℕ) (x : List ℕ) (r : Wrote) (out : List ℕ) : Type 0 where
   pub answer : r ≡ cond (fits d at x) (wrote.Written (at + length x)) wrote.Short
   pub bytes : out ≡ cond (fits d at x) (put d at x) d
+
+module _ (d : List ℕ) (at : ℕ) (x : List ℕ) where
+  pub placed-short : length d < at + length x → Placed d at x wrote.Short d
+  placed-short h =
+      let e : fits d at x ≡ false = lt-leb _ _ h in
+      record { answer = else (fits d at x) _ _ _ e refl; bytes = else (fits d at x) _ _ _ e refl }
+
+  pub placed-put : at + length x ≤ length d → (next : ℕ) (out : List ℕ) → PutAt d at x next out → Placed d at x (wrote.Written next) out
+  placed-put h next out p =
+      let e : fits d at x ≡ true = le-leb _ _ h in
+      record { answer = then (fits d at x) _ _ _ e (ap wrote.Written (p .place)); bytes = then (fits d at x) _ _ _ e (p .bytes) }

@@ -99,3 +99,45 @@ fn left_after_octets(room: usize, octets: &[u8]) -> Left
     }
     Left::Enough(left)
 }
+
+// ---- A whole line. Its numbers are those of fields and then those of octets.
+
+// How much of some room is left behind a line.
+pub fn left_after_line(room: usize, word: &[u8], fields: &[u64], octets: &[u8]) -> Left
+    ensures { λ r. ⌜ r ≡ leftBy room (length (lineOf (now (word .entry)) (now (fields .entry) ++ now (octets .entry)))) ⌝ }
+{
+    if room <= word.len() {
+        return Left::Short;
+    }
+    let behind = room - word.len() - 1;
+    let Left::Enough(left) = left_after_fields(behind, fields) else {
+        return Left::Short;
+    };
+    left_after_octets(left, octets)
+}
+
+// A line, where the caller has seen that there is room.
+pub fn put_line(out: &mut [u8], at: usize, word: &[u8], fields: &[u64], octets: &[u8]) -> usize
+    requires { ⌜ at + length (lineOf (now word) (now fields ++ now octets)) ≤ length (now out) ⌝ }
+    ensures { λ r. ⌜ PutAt (now (out .entry)) at (lineOf (now (word .entry)) (now (fields .entry) ++ now (octets .entry))) r (now (out .exit)) ⌝ }
+{
+    let first = put_text(out, at, word);
+    let second = put_fields(out, first, fields);
+    let third = put_octets(out, second, octets);
+    out[third] = 10;
+    third + 1
+}
+
+// A line at a place of a lent buffer, if there is room for all of it.
+pub fn write_line(out: &mut [u8], at: usize, word: &[u8], fields: &[u64], octets: &[u8]) -> Wrote
+    ensures { λ r. ⌜ Placed (now (out .entry)) at (lineOf (now (word .entry)) (now (fields .entry) ++ now (octets .entry))) r (now (out .exit)) ⌝ }
+{
+    let length = out.len();
+    if length < at {
+        return Wrote::Short;
+    }
+    let Left::Enough(_) = left_after_line(length - at, word, fields, octets) else {
+        return Wrote::Short;
+    };
+    Wrote::Written(put_line(out, at, word, fields, octets))
+}
