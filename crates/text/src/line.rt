@@ -141,3 +141,10 @@ pub fn write_line(out: &mut [u8], at: usize, word: &[u8], fields: &[u64], octets
     };
     Wrote::Written(put_line(out, at, word, fields, octets))
 }
+
+// The same for a line of fields only.
+pub fn write_fields(out: &mut [u8], at: usize, word: &[u8], fields: &[u64]) -> Wrote
+    ensures { λ r. ⌜ Placed (now (out .entry)) at (lineOf (now (word .entry)) (now (fields .entry))) r (now (out .exit)) ⌝ }
+{
+    write_line(out, at, word, fields, b"")
+}

@@ -1,0 +1,57 @@
+use borrow.Author.Needs.{needs}
+use Rattle.report.proofs.group.write_group.Statement.{statement}
+use Rattle.report.proofs.group.write_group.Tie as tie
+use Rattle.report.proofs.group.write_group.Reads as reads
+use Rattle.report.proofs.group.write_group.Lts as lts
+use Rattle.frame.proofs.identifier.read.Reads as read-reads
+use Rattle.text.proofs.line.write_fields.Reads as write-fields-reads
+
+-- src/group.rt:14:9
+read-requires : tie.Need-read-requires
+read-requires c κs = search needs
+
+-- src/group.rt:15:19
+cast-t8 : tie.Need-cast-t8
+cast-t8 c = search needs
+
+-- src/group.rt:15:34
+cast-t9 : tie.Need-cast-t9
+cast-t9 c = search needs
+
+-- src/group.rt:15:47
+cast-t10 : tie.Need-cast-t10
+cast-t10 c = search needs
+
+-- src/group.rt:16:27
+slice-aggregate-write-fields : tie.Need-slice-aggregate-write-fields
+slice-aggregate-write-fields c = search needs
+
+-- src/group.rt:16:34
+slice-aggregate-write-fields-2 : tie.Need-slice-aggregate-write-fields-2
+slice-aggregate-write-fields-2 c = search needs
+
+-- src/group.rt:16:5
+write-fields-requires : tie.Need-write-fields-requires
+write-fields-requires c κs = search needs
+
+-- src/group.rt:11:1
+same-length : tie.Need-same-length
+same-length c = search needs
+
+-- src/group.rt:11:1
+returns : tie.Need-returns
+returns c = ?
+
+pub write-group-spec : {M : Type 1} → statement M
+write-group-spec =
+    tie.close
+    (tie.spec
+    read-requires
+    cast-t8
+    cast-t9
+    cast-t10
+    slice-aggregate-write-fields
+    slice-aggregate-write-fields-2
+    write-fields-requires
+    same-length
+    returns)
