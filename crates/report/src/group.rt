@@ -12,6 +12,11 @@ pub fn write_group(out: &mut [u8], at: usize, id: u32, group: Group) -> Wrote
     ensures { λ r. ⌜ Placed (now (out .entry)) at (groupLine id group) r (now (out .exit)) ⌝ }
 {
     let f = identifier::read(id);
-    let fields = [f.sa.0 as u64, f.ps as u64, group.pgn as u64, group.len as u64];
+    let fields = [
+        f.sa.0 as u64,
+        f.ps as u64,
+        group.pgn as u64,
+        group.len as u64,
+    ];
     write_fields(out, at, b"pg", &fields)
 }

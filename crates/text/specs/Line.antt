@@ -9,7 +9,7 @@ use lib.ListN.{length, length-append}
 use borrow.Author.Tests.{lt-ltb, le-ltb, ltb-true, ltb-false, le-leb, lt-leb}
 use Rattle.laws.specs.Choice.{then, else}
 use Rattle.text.specs.Decimal.{decimal, widthOf, length-decimal}
-use Rattle.text.specs.Put.{put, PutAt}
+use Rattle.text.specs.Put.{put, PutAt, put-same, put-then}
 use Rattle.text.specs.declared.Left.{Left}
 use Rattle.text.specs.declared.Left.the-variants as left
 use Rattle.text.specs.declared.Wrote.{Wrote}
@@ -84,3 +84,42 @@ module _ (d : List ℕ) (at : ℕ) (x : List ℕ) where
   placed-put h next out p =
       let e : fits d at x ≡ true = le-leb _ _ h in
       record { answer = then (fits d at x) _ _ _ e (ap wrote.Written (p .place)); bytes = then (fits d at x) _ _ _ e (p .bytes) }
+
+-- ---- two writes behind each other, looked at together
+
+module _ (d : List ℕ) (at : ℕ) (x y : List ℕ) (inside : at ≤ length d) where
+  pub first-short : leftBy (length d - at) (length x) ≡ left.Short → Placed d at (x ++ y) wrote.Short d
+  first-short e =
+      let h : length d - at < length x = short-of _ _ e in
+      let n : length (x ++ y) ≡ length x + length y = length-append x y in
+      placed-short d at (x ++ y) (omega arith)
+
+  module _ (l : ℕ) (e : leftBy (length d - at) (length x) ≡ left.Enough l) where
+    pub second-short : leftBy l (length y) ≡ left.Short → Placed d at (x ++ y) wrote.Short d
+    second-short s =
+        let h : l < length y = short-of _ _ s in
+        let (a, b) = enough-of _ _ l e in
+        let n : length (x ++ y) ≡ length x + length y = length-append x y in
+        placed-short d at (x ++ y) (omega arith)
+
+    pub first-room : at + length x ≤ length d
+    first-room = let (a, b) = enough-of _ _ l e in omega arith
+
+    module _ (m : ℕ) (s : leftBy l (length y) ≡ left.Enough m) where
+      both-room : at + length (x ++ y) ≤ length d
+      both-room =
+          let (a, b) = enough-of _ _ l e in
+          let (f, g) = enough-of _ _ m s in
+          let n : length (x ++ y) ≡ length x + length y = length-append x y in
+          omega arith
+
+      module _ (p : ℕ) (o : List ℕ) (w : PutAt d at x p o) where
+        pub second-room : p + length y ≤ length o
+        second-room =
+            let k : length o ≡ length d = put-same d at x p o first-room w in
+            let q : p ≡ at + length x = w .place in
+            let n : length (x ++ y) ≡ length x + length y = length-append x y in
+            omega (arith, both-room)
+
+        pub placed-both : (q : ℕ) (r : List ℕ) → PutAt o p y q r → Placed d at (x ++ y) (wrote.Written q) r
+        placed-both q r v = placed-put d at (x ++ y) both-room q r (put-then d at x p o first-room w y q r v)

@@ -148,3 +148,29 @@ pub fn write_fields(out: &mut [u8], at: usize, word: &[u8], fields: &[u64]) -> W
 {
     write_line(out, at, word, fields, b"")
 }
+
+// Two lines, if there is room for both: the first has the numbers in counts, the second those in fields and octets.
+pub fn write_two(
+    out: &mut [u8],
+    at: usize,
+    first: &[u8],
+    counts: &[u64],
+    word: &[u8],
+    fields: &[u64],
+    octets: &[u8],
+) -> Wrote
+    ensures { λ r. ⌜ Placed (now (out .entry)) at (lineOf (now (first .entry)) (now (counts .entry)) ++ lineOf (now (word .entry)) (now (fields .entry) ++ now (octets .entry))) r (now (out .exit)) ⌝ }
+{
+    let length = out.len();
+    if length < at {
+        return Wrote::Short;
+    }
+    let Left::Enough(left) = left_after_line(length - at, first, counts, b"") else {
+        return Wrote::Short;
+    };
+    let Left::Enough(_) = left_after_line(left, word, fields, octets) else {
+        return Wrote::Short;
+    };
+    let next = put_line(out, at, first, counts, b"");
+    Wrote::Written(put_line(out, next, word, fields, octets))
+}

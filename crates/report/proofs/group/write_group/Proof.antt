@@ -1,3 +1,8 @@
+use mathlib.Core.Path.{subst}
+use mathlib.Core.List.{[], _∷_}
+use Rattle.frame.specs.declared.identifier.Identifier.{Identifier}
+use Rattle.text.specs.Line.{lineOf, Placed}
+use Rattle.report.specs.Lines.{pgWord}
 use borrow.Author.Needs.{needs}
 use Rattle.report.proofs.group.write_group.Statement.{statement}
 use Rattle.report.proofs.group.write_group.Tie as tie
@@ -40,7 +45,10 @@ same-length c = search needs
 
 -- src/group.rt:11:1
 returns : tie.Need-returns
-returns c = ?
+returns c =
+    let a = c .before .before .before .before .before .before .before .before .before .before .before .args in
+    subst (λ (f : Identifier). Placed (a .out .now) (a .at) (lineOf pgWord (f .sa .0 ∷ f .ps ∷ a .group .pgn ∷ a .group .len ∷ [])) (c .before .before .write-fields .result) (c .before .before .write-fields .last .0))
+    (c .before .before .before .before .before .before .before .before .before .read .ensures) (c .before .before .write-fields .ensures)
 
 pub write-group-spec : {M : Type 1} → statement M
 write-group-spec =

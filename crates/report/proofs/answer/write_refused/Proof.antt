@@ -1,0 +1,47 @@
+use borrow.Author.Needs.{needs}
+use Rattle.report.proofs.answer.write_refused.Statement.{statement}
+use Rattle.report.proofs.answer.write_refused.Tie as tie
+use Rattle.report.proofs.answer.write_refused.Reads as reads
+use Rattle.report.proofs.answer.write_refused.Lts as lts
+use Rattle.frame.proofs.refusal.number.Reads as number-reads
+use Rattle.text.proofs.line.write_fields.Reads as write-fields-reads
+
+-- src/answer.rt:42:19
+number-requires : tie.Need-number-requires
+number-requires c κs = search needs
+
+-- src/answer.rt:42:19
+cast-t7 : tie.Need-cast-t7
+cast-t7 c = search needs
+
+-- src/answer.rt:43:27
+slice-aggregate-write-fields : tie.Need-slice-aggregate-write-fields
+slice-aggregate-write-fields c = search needs
+
+-- src/answer.rt:43:39
+slice-aggregate-write-fields-2 : tie.Need-slice-aggregate-write-fields-2
+slice-aggregate-write-fields-2 c = search needs
+
+-- src/answer.rt:43:5
+write-fields-requires : tie.Need-write-fields-requires
+write-fields-requires c κs = search needs
+
+-- src/answer.rt:39:1
+same-length : tie.Need-same-length
+same-length c = search needs
+
+-- src/answer.rt:39:1
+returns : tie.Need-returns
+returns c = ?
+
+pub write-refused-spec : {M : Type 1} → statement M
+write-refused-spec =
+    tie.close
+    (tie.spec
+    number-requires
+    cast-t7
+    slice-aggregate-write-fields
+    slice-aggregate-write-fields-2
+    write-fields-requires
+    same-length
+    returns)
