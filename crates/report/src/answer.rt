@@ -1,16 +1,21 @@
 // The lines of a frame's answer.
-ghost use Rattle.report.specs.Lines.{sessionLine, endingLine, refusedLine, openWord, tookWord, ctsWord, abortWord, endedWord};
+ghost use Rattle.report.specs.Lines.{sessionLine, endingLine, refusedLine, messageLine, messageLines, answerLines};
+ghost use Rattle.report.specs.Lines.{openWord, tookWord, ctsWord, abortWord, eomaWord, endedWord};
 ghost use Rattle.text.specs.Line.{Placed};
 ghost use mathlib.Core.Path.{_≡_};
-ghost use mathlib.Core.List.{[], _∷_};
+ghost use mathlib.Core.List.{[], _∷_, _++_};
 ghost use Rattle.frame.specs.Refusals.{numberOf};
 use frame::refusal::Refusal;
 use frame::refusal::number;
+use receiver::answer::Answer;
 use receiver::answer::Ending;
+use receiver::answer::Message;
 use receiver::answer::Rejection;
 use receiver::answer::Taken;
 use text::Wrote;
 use text::line::write_fields;
+use text::line::write_line;
+use text::line::write_two;
 use transport::Key;
 use transport::Kind;
 use transport::response::Cts;
@@ -45,7 +50,7 @@ fn write_grant(out: &mut [u8], at: usize, cts: Cts) -> Wrote
     write_fields(out, at, b"send cts", &fields)
 }
 
-fn write_refused(out: &mut [u8], at: usize, refusal: Refusal) -> Wrote
+pub fn write_refused(out: &mut [u8], at: usize, refusal: Refusal) -> Wrote
     ensures { λ r. ⌜ Placed (now (out .entry)) at (refusedLine refusal) r (now (out .exit)) ⌝ }
 {
     let fields = [number(refusal) as u64];
@@ -68,7 +73,7 @@ fn write_ended(out: &mut [u8], at: usize, key: Key, number: u8) -> Wrote
     write_fields(out, at, b"ended", &fields)
 }
 
-fn write_ending(out: &mut [u8], at: usize, ending: Ending) -> Wrote
+pub fn write_ending(out: &mut [u8], at: usize, ending: Ending) -> Wrote
     ensures { λ r. ⌜ Placed (now (out .entry)) at (endingLine ending) r (now (out .exit)) ⌝ }
 {
     let key = ending.key;
@@ -87,4 +92,70 @@ fn write_rejection(out: &mut [u8], at: usize, rejection: Rejection) -> Wrote
     let key = rejection.key;
     let refusal = rejection.refusal;
     write_abort(out, at, key, number(refusal))
+}
+
+// A message by itself, as a BAM's is handed over.
+fn write_message(out: &mut [u8], at: usize, m: Message, bytes: &[u8]) -> Wrote
+    ensures { λ r. ⌜ Placed (now (out .entry)) at (messageLine m (now (bytes .entry))) r (now (out .exit)) ⌝ }
+{
+    let fields = [
+        m.key.sa.0 as u64,
+        m.key.da.0 as u64,
+        m.key.session.0 as u64,
+        m.pgn as u64,
+        m.total.0 as u64,
+    ];
+    write_line(out, at, b"msg", &fields, bytes)
+}
+
+// The EOMA that an RTS is answered by, and the message.
+fn write_acknowledged(out: &mut [u8], at: usize, m: Message, bytes: &[u8]) -> Wrote
+    ensures { λ r. ⌜ Placed (now (out .entry)) at (sessionLine eomaWord (m .key) [] ++ messageLine m (now (bytes .entry))) r (now (out .exit)) ⌝ }
+{
+    let session = [m.key.sa.0 as u64, m.key.session.0 as u64];
+    let fields = [
+        m.key.sa.0 as u64,
+        m.key.da.0 as u64,
+        m.key.session.0 as u64,
+        m.pgn as u64,
+        m.total.0 as u64,
+    ];
+    write_two(out, at, b"send eoma", &session, b"msg", &fields, bytes)
+}
+
+fn write_handed_over(out: &mut [u8], at: usize, m: Message, bytes: &[u8]) -> Wrote
+    ensures { λ r. ⌜ Placed (now (out .entry)) at (messageLines m (now (bytes .entry))) r (now (out .exit)) ⌝ }
+{
+    let kind = m.kind;
+    match kind {
+        Kind::Rts => write_acknowledged(out, at, m, bytes),
+        Kind::Bam => write_message(out, at, m, bytes),
+    }
+}
+
+// No line.
+pub fn write_nothing(out: &mut [u8], at: usize) -> Wrote
+    ensures { λ r. ⌜ Placed (now (out .entry)) at [] r (now (out .exit)) ⌝ }
+{
+    if out.len() < at {
+        return Wrote::Short;
+    }
+    Wrote::Written(at)
+}
+
+// The lines of a frame's answer. bytes is the part of the store that the answer speaks of: the message handed over.
+pub fn write_answer(out: &mut [u8], at: usize, answer: Answer, bytes: &[u8]) -> Wrote
+    ensures { λ r. ⌜ Placed (now (out .entry)) at (answerLines answer (now (bytes .entry))) r (now (out .exit)) ⌝ }
+{
+    match answer {
+        Answer::Groups => write_nothing(out, at),
+        Answer::Opened(key) => write_opened(out, at, key),
+        Answer::Taken(taken) => write_taken(out, at, taken),
+        Answer::Grant(cts) => write_grant(out, at, cts),
+        Answer::HandedOver(m) => write_handed_over(out, at, m, bytes),
+        Answer::Aborted(key) => write_ended(out, at, key, 0),
+        Answer::Ended(ending) => write_ending(out, at, ending),
+        Answer::RefusedRts(rejection) => write_rejection(out, at, rejection),
+        Answer::Refused(refusal) => write_refused(out, at, refusal),
+    }
 }

@@ -1,7 +1,7 @@
 -- A line: a word, then a space and the decimal digits of each number, then LF. 01, "Program".
 use Prim.Native.Nat.{ℕ, _+_, _-_, _<_, _≤_}
 use native.Mathlib.Omega.{arith}
-use mathlib.Core.Path.{_≡_, refl, sym, ap, _∙_}
+use mathlib.Core.Path.{_≡_, refl, sym, ap, subst, _∙_}
 use mathlib.Core.Bool.{Bool, true, false, cond}
 use mathlib.Core.List.{List, [], _∷_, _++_, append-assoc}
 use lib.Dec.{leb, ltb}
@@ -84,6 +84,9 @@ module _ (d : List ℕ) (at : ℕ) (x : List ℕ) where
   placed-put h next out p =
       let e : fits d at x ≡ true = le-leb _ _ h in
       record { answer = then (fits d at x) _ _ _ e (ap wrote.Written (p .place)); bytes = then (fits d at x) _ _ _ e (p .bytes) }
+
+pub placed-by : {d : List ℕ} {at : ℕ} {x y : List ℕ} {r : Wrote} {out : List ℕ} → x ≡ y → Placed d at y r out → Placed d at x r out
+placed-by {d} {at} {x} {y} {r} {out} e p = subst (λ (z : List ℕ). Placed d at z r out) (sym e) p
 
 -- ---- two writes behind each other, looked at together
 

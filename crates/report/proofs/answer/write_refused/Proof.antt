@@ -1,3 +1,8 @@
+use Prim.Native.Nat.{ℕ}
+use mathlib.Core.Path.{_≡_, refl, sym, ap, _∙_}
+use mathlib.Core.List.{List, [], _∷_}
+use Rattle.text.specs.Line.{lineOf, Placed, placed-by}
+use Rattle.report.specs.Lines.{refusedWord}
 use borrow.Author.Needs.{needs}
 use Rattle.report.proofs.answer.write_refused.Statement.{statement}
 use Rattle.report.proofs.answer.write_refused.Tie as tie
@@ -32,7 +37,7 @@ same-length c = search needs
 
 -- src/answer.rt:39:1
 returns : tie.Need-returns
-returns c = ?
+returns c = placed-by (ap (λ (n : ℕ). lineOf refusedWord (n ∷ [])) (sym (c .before .before .before .before .before .before .number .ensures))) (c .before .before .write-fields .ensures)
 
 pub write-refused-spec : {M : Type 1} → statement M
 write-refused-spec =
