@@ -1,6 +1,6 @@
 -- What a Multi-PG frame says: 01, "Groups in one frame".
 use Prim.Native.Nat.{ℕ, zero, suc, _+_, _-_, _*_, _/_, _%_}
-use mathlib.Core.Bool.{Bool, cond, not}
+use mathlib.Core.Bool.{cond, not}
 use mathlib.Core.List.{List, [], _∷_, map}
 use lib.Dec.{eqb, leb, ltb}
 use lib.ListN.{length, getD, take, drop}
@@ -8,7 +8,6 @@ use Rattle.frame.specs.Pgn.{lowByteOk}
 use Rattle.frame.specs.declared.refusal.Refusal.{Refusal}
 use Rattle.frame.specs.declared.refusal.Refusal.the-variants.{HeaderCut, DataCut, ServiceType, TrailerFormat, PgnForm}
 use Rattle.multi_pg.specs.declared.Group.{Group}
-use Rattle.multi_pg.specs.declared.Cursor.{Cursor}
 use Rattle.multi_pg.specs.declared.Step.{Step}
 use Rattle.multi_pg.specs.declared.Step.the-variants as step
 use Rattle.multi_pg.specs.declared.Judgement.{Judgement}
@@ -73,3 +72,46 @@ readFrom (suc n) d at = onStep (stepAt d at) (λ g. readFrom n d (g .start + g .
 -- a group takes 4 bytes at least, so a frame has no more groups than bytes
 unfoldable pub reading : List ℕ → Reading
 reading d = readFrom (suc (length d)) d 0
+
+abbrev pub judgementOf : Reading → Judgement
+judgementOf (good gs) = judgement.Good
+judgementOf (bad r) = judgement.Refused r
+
+-- a refused frame gives out no group
+abbrev pub groupsIn : Reading → List Group
+groupsIn (good gs) = gs
+groupsIn (bad r) = []
+
+abbrev pub groupsOf : List ℕ → List Group
+groupsOf d = groupsIn (reading d)
+
+-- ---- a reader: the place that it has come to
+
+abbrev pub startAt : ℕ → Judgement → ℕ
+startAt n judgement.Good = 0
+startAt n (judgement.Refused r) = n
+
+-- where a reader begins: at the end, if the frame is refused
+abbrev pub startOf : List ℕ → ℕ
+startOf d = startAt (length d) (judgementOf (reading d))
+
+abbrev pub onNext : Step → Next
+onNext (step.At g) = next.Given g (record { at = g .start + g .len })
+onNext step.End = next.End
+onNext (step.Fault r) = next.End
+
+abbrev pub nextAt : List ℕ → ℕ → Next
+nextAt d at = onNext (stepAt d at)
+
+-- ---- what a frame says, without places
+
+-- a group's PGN and its data
+pub record Content : Type 0 where
+  pub pgn : ℕ
+  pub bytes : List ℕ
+
+abbrev pub contentOf : List ℕ → Group → Content
+contentOf d g = record { pgn = g .pgn; bytes = take (g .len) (drop (g .start) d) }
+
+abbrev pub contents : List ℕ → List Group → List Content
+contents d gs = map (contentOf d) gs
