@@ -13,7 +13,7 @@ use receiver::answer::Message;
 use receiver::answer::Rejection;
 use receiver::answer::Taken;
 use text::Wrote;
-use text::line::write_fields;
+use text::line::write_plain;
 use text::line::write_line;
 use text::line::write_two;
 use transport::Key;
@@ -24,7 +24,7 @@ fn write_opened(out: &mut [u8], at: usize, key: Key) -> Wrote
     ensures { λ r. ⌜ Placed (now (out .entry)) at (sessionLine openWord key []) r (now (out .exit)) ⌝ }
 {
     let fields = [key.sa.0 as u64, key.session.0 as u64];
-    write_fields(out, at, b"open", &fields)
+    write_plain(out, at, b"open", &fields)
 }
 
 fn write_taken(out: &mut [u8], at: usize, taken: Taken) -> Wrote
@@ -35,7 +35,7 @@ fn write_taken(out: &mut [u8], at: usize, taken: Taken) -> Wrote
         taken.key.session.0 as u64,
         taken.number.0 as u64,
     ];
-    write_fields(out, at, b"took", &fields)
+    write_plain(out, at, b"took", &fields)
 }
 
 fn write_grant(out: &mut [u8], at: usize, cts: Cts) -> Wrote
@@ -47,14 +47,14 @@ fn write_grant(out: &mut [u8], at: usize, cts: Cts) -> Wrote
         cts.next.0 as u64,
         cts.count as u64,
     ];
-    write_fields(out, at, b"send cts", &fields)
+    write_plain(out, at, b"send cts", &fields)
 }
 
 pub fn write_refused(out: &mut [u8], at: usize, refusal: Refusal) -> Wrote
     ensures { λ r. ⌜ Placed (now (out .entry)) at (refusedLine refusal) r (now (out .exit)) ⌝ }
 {
     let fields = [number(refusal) as u64];
-    write_fields(out, at, b"refused", &fields)
+    write_plain(out, at, b"refused", &fields)
 }
 
 // An Abort that we send, with the number of the refusal.
@@ -62,7 +62,7 @@ fn write_abort(out: &mut [u8], at: usize, key: Key, number: u8) -> Wrote
     ensures { λ r. ⌜ Placed (now (out .entry)) at (sessionLine abortWord key (number ∷ [])) r (now (out .exit)) ⌝ }
 {
     let fields = [key.sa.0 as u64, key.session.0 as u64, number as u64];
-    write_fields(out, at, b"send abort", &fields)
+    write_plain(out, at, b"send abort", &fields)
 }
 
 // An ending with no Abort sent.
@@ -70,7 +70,7 @@ fn write_ended(out: &mut [u8], at: usize, key: Key, number: u8) -> Wrote
     ensures { λ r. ⌜ Placed (now (out .entry)) at (sessionLine endedWord key (number ∷ [])) r (now (out .exit)) ⌝ }
 {
     let fields = [key.sa.0 as u64, key.session.0 as u64, number as u64];
-    write_fields(out, at, b"ended", &fields)
+    write_plain(out, at, b"ended", &fields)
 }
 
 pub fn write_ending(out: &mut [u8], at: usize, ending: Ending) -> Wrote

@@ -5,7 +5,7 @@ ghost use Rattle.text.specs.Line.{Placed};
 use frame::identifier;
 use multi_pg::Group;
 use text::Wrote;
-use text::line::write_fields;
+use text::line::write_plain;
 
 // A group that stands in a frame of the identifier.
 pub fn write_group(out: &mut [u8], at: usize, id: u32, group: Group) -> Wrote
@@ -18,5 +18,5 @@ pub fn write_group(out: &mut [u8], at: usize, id: u32, group: Group) -> Wrote
         group.pgn as u64,
         group.len as u64,
     ];
-    write_fields(out, at, b"pg", &fields)
+    write_plain(out, at, b"pg", &fields)
 }

@@ -85,6 +85,14 @@ module _ (d : List ℕ) (at : ℕ) (x : List ℕ) where
       let e : fits d at x ≡ true = le-leb _ _ h in
       record { answer = then (fits d at x) _ _ _ e (ap wrote.Written (p .place)); bytes = then (fits d at x) _ _ _ e (p .bytes) }
 
+-- by the room that is left behind x
+module _ (d : List ℕ) (at : ℕ) (x : List ℕ) (inside : at ≤ length d) where
+  pub left-cut : leftBy (length d - at) (length x) ≡ left.Short → Placed d at x wrote.Short d
+  left-cut e = let h : length d - at < length x = short-of _ _ e in placed-short d at x (omega arith)
+
+  pub left-room : (l : ℕ) → leftBy (length d - at) (length x) ≡ left.Enough l → at + length x ≤ length d
+  left-room l e = let (a, b) = enough-of _ _ l e in omega arith
+
 pub placed-by : {d : List ℕ} {at : ℕ} {x y : List ℕ} {r : Wrote} {out : List ℕ} → x ≡ y → Placed d at y r out → Placed d at x r out
 placed-by {d} {at} {x} {y} {r} {out} e p = subst (λ (z : List ℕ). Placed d at z r out) (sym e) p
 

@@ -142,8 +142,22 @@ pub fn write_line(out: &mut [u8], at: usize, word: &[u8], fields: &[u64], octets
     Wrote::Written(put_line(out, at, word, fields, octets))
 }
 
-// The same for a line of fields only.
-pub fn write_fields(out: &mut [u8], at: usize, word: &[u8], fields: &[u64]) -> Wrote
+// ---- A line with no octets.
+
+pub fn left_after_plain(room: usize, word: &[u8], fields: &[u64]) -> Left
+    ensures { λ r. ⌜ r ≡ leftBy room (length (lineOf (now (word .entry)) (now (fields .entry)))) ⌝ }
+{
+    left_after_line(room, word, fields, b"")
+}
+
+pub fn put_plain(out: &mut [u8], at: usize, word: &[u8], fields: &[u64]) -> usize
+    requires { ⌜ at + length (lineOf (now word) (now fields)) ≤ length (now out) ⌝ }
+    ensures { λ r. ⌜ PutAt (now (out .entry)) at (lineOf (now (word .entry)) (now (fields .entry))) r (now (out .exit)) ⌝ }
+{
+    put_line(out, at, word, fields, b"")
+}
+
+pub fn write_plain(out: &mut [u8], at: usize, word: &[u8], fields: &[u64]) -> Wrote
     ensures { λ r. ⌜ Placed (now (out .entry)) at (lineOf (now (word .entry)) (now (fields .entry))) r (now (out .exit)) ⌝ }
 {
     write_line(out, at, word, fields, b"")
@@ -165,12 +179,12 @@ pub fn write_two(
     if length < at {
         return Wrote::Short;
     }
-    let Left::Enough(left) = left_after_line(length - at, first, counts, b"") else {
+    let Left::Enough(left) = left_after_plain(length - at, first, counts) else {
         return Wrote::Short;
     };
     let Left::Enough(_) = left_after_line(left, word, fields, octets) else {
         return Wrote::Short;
     };
-    let next = put_line(out, at, first, counts, b"");
+    let next = put_plain(out, at, first, counts);
     Wrote::Written(put_line(out, next, word, fields, octets))
 }

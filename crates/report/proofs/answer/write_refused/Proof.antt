@@ -9,7 +9,7 @@ use Rattle.report.proofs.answer.write_refused.Tie as tie
 use Rattle.report.proofs.answer.write_refused.Reads as reads
 use Rattle.report.proofs.answer.write_refused.Lts as lts
 use Rattle.frame.proofs.refusal.number.Reads as number-reads
-use Rattle.text.proofs.line.write_fields.Reads as write-fields-reads
+use Rattle.text.proofs.line.write_plain.Reads as write-plain-reads
 
 -- src/answer.rt:42:19
 number-requires : tie.Need-number-requires
@@ -20,16 +20,16 @@ cast-t7 : tie.Need-cast-t7
 cast-t7 c = search needs
 
 -- src/answer.rt:43:27
-slice-aggregate-write-fields : tie.Need-slice-aggregate-write-fields
-slice-aggregate-write-fields c = search needs
+slice-aggregate-write-plain : tie.Need-slice-aggregate-write-plain
+slice-aggregate-write-plain c = search needs
 
 -- src/answer.rt:43:39
-slice-aggregate-write-fields-2 : tie.Need-slice-aggregate-write-fields-2
-slice-aggregate-write-fields-2 c = search needs
+slice-aggregate-write-plain-2 : tie.Need-slice-aggregate-write-plain-2
+slice-aggregate-write-plain-2 c = search needs
 
 -- src/answer.rt:43:5
-write-fields-requires : tie.Need-write-fields-requires
-write-fields-requires c κs = search needs
+write-plain-requires : tie.Need-write-plain-requires
+write-plain-requires c κs = search needs
 
 -- src/answer.rt:39:1
 same-length : tie.Need-same-length
@@ -37,7 +37,7 @@ same-length c = search needs
 
 -- src/answer.rt:39:1
 returns : tie.Need-returns
-returns c = placed-by (ap (λ (n : ℕ). lineOf refusedWord (n ∷ [])) (sym (c .before .before .before .before .before .before .number .ensures))) (c .before .before .write-fields .ensures)
+returns c = placed-by (ap (λ (n : ℕ). lineOf refusedWord (n ∷ [])) (sym (c .before .before .before .before .before .before .number .ensures))) (c .before .before .write-plain .ensures)
 
 pub write-refused-spec : {M : Type 1} → statement M
 write-refused-spec =
@@ -45,8 +45,8 @@ write-refused-spec =
     (tie.spec
     number-requires
     cast-t7
-    slice-aggregate-write-fields
-    slice-aggregate-write-fields-2
-    write-fields-requires
+    slice-aggregate-write-plain
+    slice-aggregate-write-plain-2
+    write-plain-requires
     same-length
     returns)

@@ -9,7 +9,7 @@ use Rattle.report.proofs.group.write_group.Tie as tie
 use Rattle.report.proofs.group.write_group.Reads as reads
 use Rattle.report.proofs.group.write_group.Lts as lts
 use Rattle.frame.proofs.identifier.read.Reads as read-reads
-use Rattle.text.proofs.line.write_fields.Reads as write-fields-reads
+use Rattle.text.proofs.line.write_plain.Reads as write-plain-reads
 
 -- src/group.rt:14:9
 read-requires : tie.Need-read-requires
@@ -28,16 +28,16 @@ cast-t10 : tie.Need-cast-t10
 cast-t10 c = search needs
 
 -- src/group.rt:16:27
-slice-aggregate-write-fields : tie.Need-slice-aggregate-write-fields
-slice-aggregate-write-fields c = search needs
+slice-aggregate-write-plain : tie.Need-slice-aggregate-write-plain
+slice-aggregate-write-plain c = search needs
 
 -- src/group.rt:16:34
-slice-aggregate-write-fields-2 : tie.Need-slice-aggregate-write-fields-2
-slice-aggregate-write-fields-2 c = search needs
+slice-aggregate-write-plain-2 : tie.Need-slice-aggregate-write-plain-2
+slice-aggregate-write-plain-2 c = search needs
 
 -- src/group.rt:16:5
-write-fields-requires : tie.Need-write-fields-requires
-write-fields-requires c κs = search needs
+write-plain-requires : tie.Need-write-plain-requires
+write-plain-requires c κs = search needs
 
 -- src/group.rt:11:1
 same-length : tie.Need-same-length
@@ -47,8 +47,8 @@ same-length c = search needs
 returns : tie.Need-returns
 returns c =
     let a = c .before .before .before .before .before .before .before .before .before .before .before .args in
-    subst (λ (f : Identifier). Placed (a .out .now) (a .at) (lineOf pgWord (f .sa .0 ∷ f .ps ∷ a .group .pgn ∷ a .group .len ∷ [])) (c .before .before .write-fields .result) (c .before .before .write-fields .last .0))
-    (c .before .before .before .before .before .before .before .before .before .read .ensures) (c .before .before .write-fields .ensures)
+    subst (λ (f : Identifier). Placed (a .out .now) (a .at) (lineOf pgWord (f .sa .0 ∷ f .ps ∷ a .group .pgn ∷ a .group .len ∷ [])) (c .before .before .write-plain .result) (c .before .before .write-plain .last .0))
+    (c .before .before .before .before .before .before .before .before .before .read .ensures) (c .before .before .write-plain .ensures)
 
 pub write-group-spec : {M : Type 1} → statement M
 write-group-spec =
@@ -58,8 +58,8 @@ write-group-spec =
     cast-t8
     cast-t9
     cast-t10
-    slice-aggregate-write-fields
-    slice-aggregate-write-fields-2
-    write-fields-requires
+    slice-aggregate-write-plain
+    slice-aggregate-write-plain-2
+    write-plain-requires
     same-length
     returns)

@@ -3,10 +3,10 @@ use mathlib.Core.Path.{ap, subst}
 use mathlib.Core.List.{List, append-nil}
 use Rattle.text.specs.Line.{lineOf, Placed}
 use borrow.Author.Needs.{needs}
-use Rattle.text.proofs.line.write_fields.Statement.{statement}
-use Rattle.text.proofs.line.write_fields.Tie as tie
-use Rattle.text.proofs.line.write_fields.Reads as reads
-use Rattle.text.proofs.line.write_fields.Lts as lts
+use Rattle.text.proofs.line.write_plain.Statement.{statement}
+use Rattle.text.proofs.line.write_plain.Tie as tie
+use Rattle.text.proofs.line.write_plain.Reads as reads
+use Rattle.text.proofs.line.write_plain.Lts as lts
 use Rattle.text.proofs.line.write_line.Reads as write-line-reads
 
 -- src/line.rt:149:39
@@ -25,6 +25,6 @@ same-length c = search needs
 returns : tie.Need-returns
 returns c = subst (λ (ns : List ℕ). Placed (c .before .before .before .before .before .before .before .before .args .out .now) (c .before .before .before .before .before .before .before .before .args .at) (lineOf (c .before .before .before .before .before .before .before .before .args .word .now) ns) (c .before .before .write-line .result) (c .before .before .write-line .last .0)) (append-nil (c .before .before .before .before .before .before .before .before .args .fields .now)) (c .before .before .write-line .ensures)
 
-pub write-fields-spec : {M : Type 1} → statement M
-write-fields-spec =
+pub write-plain-spec : {M : Type 1} → statement M
+write-plain-spec =
     tie.close (tie.spec slice-aggregate-write-line write-line-requires same-length returns)
