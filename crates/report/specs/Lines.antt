@@ -6,7 +6,9 @@ use Rattle.frame.specs.Refusals.{numberOf}
 use Rattle.frame.specs.Identifiers.{identifierOf}
 use Rattle.frame.specs.declared.refusal.Refusal.{Refusal}
 use Rattle.multi_pg.specs.declared.Group.{Group}
+use Rattle.multi_pg.specs.Groups.{groupsOf}
 use Rattle.transport.specs.declared.Key.{Key}
+use Rattle.transport.specs.declared.Kind.{Kind}
 use Rattle.session.specs.Announcements.{isRts}
 use Rattle.receiver.specs.declared.answer.Message.{Message}
 use Rattle.receiver.specs.declared.answer.Ending.{Ending}
@@ -14,6 +16,7 @@ use Rattle.receiver.specs.declared.answer.Answer.{Answer}
 use Rattle.receiver.specs.declared.answer.Answer.the-variants.{Groups, Opened, Taken, Grant, HandedOver, Aborted, Ended, RefusedRts, Refused}
 use Rattle.receiver.specs.declared.answer.End.{End}
 use Rattle.receiver.specs.declared.answer.End.the-variants as end
+use Rattle.receiver.specs.declared.answer.SlotEnd.{SlotEnd}
 use Rattle.receiver.specs.declared.answer.Kept.{Kept}
 use Rattle.receiver.specs.declared.answer.Kept.the-variants as kept
 use Rattle.text.specs.Line.{lineOf}
@@ -74,12 +77,26 @@ abbrev pub refusedLine : Refusal → List ℕ
 refusedLine n = lineOf refusedWord (numberOf n ∷ [])
 
 -- SA and DA are the frame's; the length is that of the group's data
+abbrev pub groupNumbers : ℕ → Group → List ℕ
+groupNumbers id g = identifierOf id .sa .0 ∷ identifierOf id .ps ∷ g .pgn ∷ g .len ∷ []
+
 abbrev pub groupLine : ℕ → Group → List ℕ
-groupLine id g = lineOf pgWord (identifierOf id .sa .0 ∷ identifierOf id .ps ∷ g .pgn ∷ g .len ∷ [])
+groupLine id g = lineOf pgWord (groupNumbers id g)
+
+-- a line for each group, in the frame's order
+unfoldable pub groupLines : ℕ → List Group → List ℕ
+groupLines id [] = []
+groupLines id (g ∷ gs) = groupLine id g ++ groupLines id gs
 
 -- an RTS session that a refusal ends sends Abort, a BAM session nothing; the number is 01's, not the wire reason
+abbrev pub endingWord : Kind → List ℕ
+endingWord k = cond (isRts k) abortWord endedWord
+
+abbrev pub endingNumbers : Ending → List ℕ
+endingNumbers e = e .key .sa .0 ∷ e .key .session .0 ∷ numberOf (e .refusal) ∷ []
+
 abbrev pub endingLine : Ending → List ℕ
-endingLine e = sessionLine (cond (isRts (e .kind)) abortWord endedWord) (e .key) (numberOf (e .refusal) ∷ [])
+endingLine e = lineOf (endingWord (e .kind)) (endingNumbers e)
 
 -- the message's bytes follow its length on the line
 abbrev pub messageLine : Message → List ℕ → List ℕ
@@ -90,28 +107,32 @@ messageLine m bytes =
 abbrev pub messageLines : Message → List ℕ → List ℕ
 messageLines m bytes = cond (isRts (m .kind)) (sessionLine eomaWord (m .key) []) [] ++ messageLine m bytes
 
--- The lines of a frame's answer; bytes are those of a message handed over. Groups have a line each, above.
-unfoldable pub answerLines : Answer → List ℕ → List ℕ
-answerLines Groups bytes = []
-answerLines (Opened k) bytes = sessionLine openWord k []
-answerLines (Taken t) bytes = sessionLine tookWord (t .key) (t .number .0 ∷ [])
-answerLines (Grant f) bytes = sessionLine ctsWord (f .key) (f .next .0 ∷ f .count ∷ [])
-answerLines (HandedOver m) bytes = messageLines m bytes
+-- The lines of the answer to a frame of identifier id and data d; bytes are those of a message handed over.
+unfoldable pub answerLines : ℕ → List ℕ → Answer → List ℕ → List ℕ
+answerLines id d Groups bytes = groupLines id (groupsOf d)
+answerLines id d (Opened k) bytes = sessionLine openWord k []
+answerLines id d (Taken t) bytes = sessionLine tookWord (t .key) (t .number .0 ∷ [])
+answerLines id d (Grant f) bytes = sessionLine ctsWord (f .key) (f .next .0 ∷ f .count ∷ [])
+answerLines id d (HandedOver m) bytes = messageLines m bytes
 -- 0: an Abort was received
-answerLines (Aborted k) bytes = sessionLine endedWord k (0 ∷ [])
-answerLines (Ended e) bytes = endingLine e
-answerLines (RefusedRts j) bytes = sessionLine abortWord (j .key) (numberOf (j .refusal) ∷ [])
-answerLines (Refused n) bytes = refusedLine n
+answerLines id d (Aborted k) bytes = sessionLine endedWord k (0 ∷ [])
+answerLines id d (Ended e) bytes = endingLine e
+answerLines id d (RefusedRts j) bytes = sessionLine abortWord (j .key) (numberOf (j .refusal) ∷ [])
+answerLines id d (Refused n) bytes = refusedLine n
 
--- ---- a reading: a refusal of the call, and for each slot, in slot order, its ending
-
-abbrev pub keptLines : Kept → List ℕ
-keptLines kept.Kept = []
-keptLines (kept.Refused n) = refusedLine n
+-- ---- a reading: a refusal of the call, or for each slot, in slot order, its ending
 
 abbrev pub endLines : End → List ℕ
 endLines end.Stays = []
 endLines (end.Ended e) = endingLine e
+
+unfoldable pub endsLines : List SlotEnd → List ℕ
+endsLines [] = []
+endsLines (s ∷ ss) = endLines (s .end) ++ endsLines ss
+
+abbrev pub readingLines : Kept → List SlotEnd → List ℕ
+readingLines kept.Kept ends = endsLines ends
+readingLines (kept.Refused n) ends = refusedLine n
 
 -- ---- the end of a run
 

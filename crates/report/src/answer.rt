@@ -1,5 +1,5 @@
 // The lines of a frame's answer.
-ghost use Rattle.report.specs.Lines.{sessionLine, endingLine, refusedLine, messageLine, messageLines, answerLines};
+ghost use Rattle.report.specs.Lines.{sessionLine, endingNumbers, endingLine, refusedLine, messageLine, messageLines, answerLines};
 ghost use Rattle.report.specs.Lines.{openWord, tookWord, ctsWord, abortWord, eomaWord, endedWord};
 ghost use Rattle.text.specs.Line.{Placed};
 ghost use mathlib.Core.Path.{_≡_};
@@ -12,6 +12,7 @@ use receiver::answer::Ending;
 use receiver::answer::Message;
 use receiver::answer::Rejection;
 use receiver::answer::Taken;
+use super::group::write_groups;
 use text::Wrote;
 use text::line::write_plain;
 use text::line::write_line;
@@ -57,41 +58,45 @@ pub fn write_refused(out: &mut [u8], at: usize, refusal: Refusal) -> Wrote
     write_plain(out, at, b"refused", &fields)
 }
 
-// An Abort that we send, with the number of the refusal.
-fn write_abort(out: &mut [u8], at: usize, key: Key, number: u8) -> Wrote
-    ensures { λ r. ⌜ Placed (now (out .entry)) at (sessionLine abortWord key (number ∷ [])) r (now (out .exit)) ⌝ }
+// What a session ends with where a refusal ends it.
+pub fn ending_numbers(ending: Ending) -> [u64; 3]
+    ensures { λ r. ⌜ r ≡ endingNumbers ending ⌝ }
 {
-    let fields = [key.sa.0 as u64, key.session.0 as u64, number as u64];
-    write_plain(out, at, b"send abort", &fields)
-}
-
-// An ending with no Abort sent.
-fn write_ended(out: &mut [u8], at: usize, key: Key, number: u8) -> Wrote
-    ensures { λ r. ⌜ Placed (now (out .entry)) at (sessionLine endedWord key (number ∷ [])) r (now (out .exit)) ⌝ }
-{
-    let fields = [key.sa.0 as u64, key.session.0 as u64, number as u64];
-    write_plain(out, at, b"ended", &fields)
-}
-
-pub fn write_ending(out: &mut [u8], at: usize, ending: Ending) -> Wrote
-    ensures { λ r. ⌜ Placed (now (out .entry)) at (endingLine ending) r (now (out .exit)) ⌝ }
-{
-    let key = ending.key;
-    let kind = ending.kind;
     let refusal = ending.refusal;
     let n = number(refusal);
+    [ending.key.sa.0 as u64, ending.key.session.0 as u64, n as u64]
+}
+
+fn write_ending(out: &mut [u8], at: usize, ending: Ending) -> Wrote
+    ensures { λ r. ⌜ Placed (now (out .entry)) at (endingLine ending) r (now (out .exit)) ⌝ }
+{
+    let kind = ending.kind;
+    let fields = ending_numbers(ending);
     match kind {
-        Kind::Rts => write_abort(out, at, key, n),
-        Kind::Bam => write_ended(out, at, key, n),
+        Kind::Rts => write_plain(out, at, b"send abort", &fields),
+        Kind::Bam => write_plain(out, at, b"ended", &fields),
     }
+}
+
+// The originator's Abort ended the session.
+fn write_aborted(out: &mut [u8], at: usize, key: Key) -> Wrote
+    ensures { λ r. ⌜ Placed (now (out .entry)) at (sessionLine endedWord key (0 ∷ [])) r (now (out .exit)) ⌝ }
+{
+    let fields = [key.sa.0 as u64, key.session.0 as u64, 0];
+    write_plain(out, at, b"ended", &fields)
 }
 
 fn write_rejection(out: &mut [u8], at: usize, rejection: Rejection) -> Wrote
     ensures { λ r. ⌜ Placed (now (out .entry)) at (sessionLine abortWord (rejection .key) (numberOf (rejection .refusal) ∷ [])) r (now (out .exit)) ⌝ }
 {
-    let key = rejection.key;
     let refusal = rejection.refusal;
-    write_abort(out, at, key, number(refusal))
+    let n = number(refusal);
+    let fields = [
+        rejection.key.sa.0 as u64,
+        rejection.key.session.0 as u64,
+        n as u64,
+    ];
+    write_plain(out, at, b"send abort", &fields)
 }
 
 // A message by itself, as a BAM's is handed over.
@@ -133,27 +138,24 @@ fn write_handed_over(out: &mut [u8], at: usize, m: Message, bytes: &[u8]) -> Wro
     }
 }
 
-// No line.
-pub fn write_nothing(out: &mut [u8], at: usize) -> Wrote
-    ensures { λ r. ⌜ Placed (now (out .entry)) at [] r (now (out .exit)) ⌝ }
-{
-    if out.len() < at {
-        return Wrote::Short;
-    }
-    Wrote::Written(at)
-}
-
-// The lines of a frame's answer. bytes is the part of the store that the answer speaks of: the message handed over.
-pub fn write_answer(out: &mut [u8], at: usize, answer: Answer, bytes: &[u8]) -> Wrote
-    ensures { λ r. ⌜ Placed (now (out .entry)) at (answerLines answer (now (bytes .entry))) r (now (out .exit)) ⌝ }
+// The lines of the answer to a frame: its identifier and data, and the part of the store that the answer speaks of.
+pub fn write_answer(
+    out: &mut [u8],
+    at: usize,
+    id: u32,
+    frame: &[u8],
+    answer: Answer,
+    bytes: &[u8],
+) -> Wrote
+    ensures { λ r. ⌜ Placed (now (out .entry)) at (answerLines id (now (frame .entry)) answer (now (bytes .entry))) r (now (out .exit)) ⌝ }
 {
     match answer {
-        Answer::Groups => write_nothing(out, at),
+        Answer::Groups => write_groups(out, at, id, frame),
         Answer::Opened(key) => write_opened(out, at, key),
         Answer::Taken(taken) => write_taken(out, at, taken),
         Answer::Grant(cts) => write_grant(out, at, cts),
         Answer::HandedOver(m) => write_handed_over(out, at, m, bytes),
-        Answer::Aborted(key) => write_ended(out, at, key, 0),
+        Answer::Aborted(key) => write_aborted(out, at, key),
         Answer::Ended(ending) => write_ending(out, at, ending),
         Answer::RefusedRts(rejection) => write_rejection(out, at, rejection),
         Answer::Refused(refusal) => write_refused(out, at, refusal),

@@ -66,6 +66,23 @@ module _ (room n : ℕ) where
       go true p = let z : _≡_ {A = Left} left.Short (left.Enough l) = left-short room n (ltb-true _ _ p) ∙ e in absurd (let q : _≡_ {A = ℕ} 0 1 = cc in omega arith)
       go false p = let z : _≡_ {A = Left} (left.Enough (room - n)) (left.Enough l) = left-enough room n (ltb-false _ _ p) ∙ e in (ltb-false _ _ p, (cc))
 
+-- of two parts: the first cuts the whole short, or what it leaves is there for the second
+module _ (room : ℕ) (x y : List ℕ) where
+  pub left-first : leftBy room (length x) ≡ left.Short → left.Short ≡ leftBy room (length (x ++ y))
+  left-first e =
+      let h : room < length x = short-of _ _ e in
+      let n : length (x ++ y) ≡ length x + length y = length-append x y in
+      left-short room (length (x ++ y)) (omega arith)
+
+  pub left-rest : (l : ℕ) → leftBy room (length x) ≡ left.Enough l → leftBy l (length y) ≡ leftBy room (length (x ++ y))
+  left-rest l e =
+      let (a, b) = enough-of _ _ l e in
+      ap (λ (k : ℕ). leftBy k (length y)) b ∙ left-then room (length x) (length y) a ∙ ap (leftBy room) (sym (length-append x y))
+
+-- nothing takes no room
+pub left-none : (room : ℕ) → left.Enough room ≡ leftBy room 0
+left-none room = let q : room ≡ room - 0 = omega arith in ap left.Enough q ∙ left-enough room 0 (omega arith)
+
 -- ---- a write that looks first: with room for all of x it is put there and the next place told, else nothing is written
 abbrev pub fits : List ℕ → ℕ → List ℕ → Bool
 fits d at x = leb (at + length x) (length d)
