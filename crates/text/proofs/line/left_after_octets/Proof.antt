@@ -1,11 +1,13 @@
+
 use borrow.Author.Needs.{needs}
 use Prim.Native.Nat.{ℕ, _+_, _-_, _≤_}
 use native.Mathlib.Omega.{arith}
 use mathlib.Core.Path.{_≡_, refl, sym, ap, subst, _∙_}
 use lib.ListN.{length, getD, drop}
 use Rattle.text.specs.Decimal.{widthOf}
-use Rattle.text.specs.Line.{numbers, leftBy}
-use Rattle.text.proofs.Loops.{left-stop, left-on, left-out}
+use Rattle.text.specs.Line.{numbers, spaced, leftBy}
+use Rattle.text.specs.Walk.{count-cut, count-on, count-out}
+use Rattle.text.proofs.Loops.{no-numbers, more-numbers, spaced-short, spaced-left}
 use Rattle.text.proofs.line.left_after_octets.Statement.{statement}
 use Rattle.text.proofs.line.left_after_octets.Tie as tie
 use Rattle.text.proofs.line.left_after_octets.Reads as reads
@@ -37,7 +39,7 @@ width-requires c κs = search needs
 
 -- src/line.rt:95:13
 returns : tie.Need-returns Inv-loop μ-loop
-returns c = left-stop _ _ _ _ (c .before .before .before .before .before .loop .inv .1) (c .before .before .before .before .loop-test .taken) _ (c .before .width .ensures ∙ ap widthOf (c .before .before .wide .ensures)) (c .if1 .taken)
+returns c = count-cut numbers spaced no-numbers more-numbers _ _ _ _ (c .before .before .before .before .before .loop .inv .1) 0 (c .before .before .before .before .loop-test .taken) (spaced-short _ _ _ (c .before .width .ensures ∙ ap widthOf (c .before .before .wide .ensures)) (c .if1 .taken))
 
 -- src/line.rt:97:16
 sub-left : tie.Need-sub-left Inv-loop μ-loop
@@ -57,11 +59,11 @@ loop-less c = search needs
 
 -- src/line.rt:92:5
 loop-again : tie.Need-loop-again Inv-loop μ-loop
-loop-again c = (omega arith, left-on _ _ _ _ (c .before .before .before .before .before .loop .inv .1) (c .before .before .before .before .loop-test .taken) _ (c .before .width .ensures ∙ ap widthOf (c .before .before .wide .ensures)) (c .if1 .left))
+loop-again c = (omega arith, count-on numbers spaced no-numbers more-numbers _ _ _ _ (c .before .before .before .before .before .loop .inv .1) 0 (c .before .before .before .before .loop-test .taken) _ (spaced-left _ _ _ (c .before .width .ensures ∙ ap widthOf (c .before .before .wide .ensures)) (c .if1 .left)))
 
 -- src/line.rt:87:1
 returns-2 : tie.Need-returns-2 Inv-loop μ-loop
-returns-2 c = left-out _ _ _ _ (c .before .loop .inv .1) (c .loop-test .left)
+returns-2 c = count-out numbers spaced no-numbers more-numbers _ _ _ _ (c .before .loop .inv .1) (c .loop-test .left)
 
 pub left-after-octets-spec : {M : Type 1} → statement M
 left-after-octets-spec =

@@ -5,7 +5,8 @@ use mathlib.Core.Path.{_≡_, refl, sym, ap, subst, _∙_}
 use lib.ListN.{length, getD, drop}
 use Rattle.text.specs.Put.{PutAt, Going, going-start}
 use Rattle.text.specs.Line.{numbers, spaced}
-use Rattle.text.proofs.Loops.{walk-room, walk-on, walk-out, no-numbers, more-numbers}
+use Rattle.text.specs.Walk.{walk-room, walk-on, walk-out}
+use Rattle.text.proofs.Loops.{no-numbers, more-numbers}
 use Rattle.text.proofs.line.put_fields.Statement.{statement}
 use Rattle.text.proofs.line.put_fields.Tie as tie
 use Rattle.text.proofs.line.put_fields.Reads as reads
@@ -32,7 +33,7 @@ shared-slice-read-put-spaced c = search needs
 
 -- src/line.rt:50:9
 put-spaced-requires : tie.Need-put-spaced-requires Inv-loop μ-loop
-put-spaced-requires c κs = walk-room numbers spaced no-numbers more-numbers _ _ _ (c .before .before .before .before .before .before .pre) _ _ _ (c .before .before .before .loop .inv .1) (c .before .before .loop-test .taken)
+put-spaced-requires c κs = walk-room numbers spaced no-numbers more-numbers _ _ _ (c .before .before .before .before .before .before .pre) _ _ _ (c .before .before .before .loop .inv .1) 0 (c .before .before .loop-test .taken)
 
 -- src/line.rt:51:13
 add-i : tie.Need-add-i Inv-loop μ-loop
@@ -44,7 +45,7 @@ loop-less c = search needs
 
 -- src/line.rt:49:5
 loop-again : tie.Need-loop-again Inv-loop μ-loop
-loop-again c = (omega arith, walk-on numbers spaced no-numbers more-numbers _ _ _ (c .before .before .before .before .before .before .before .before .before .pre) _ _ _ (c .before .before .before .before .before .before .loop .inv .1) (c .before .before .before .before .before .loop-test .taken) _ _ (c .before .before .put-spaced .ensures))
+loop-again c = (omega arith, walk-on numbers spaced no-numbers more-numbers _ _ _ (c .before .before .before .before .before .before .before .before .before .pre) _ _ _ (c .before .before .before .before .before .before .loop .inv .1) 0 (c .before .before .before .before .before .loop-test .taken) _ _ (c .before .before .put-spaced .ensures))
 
 -- src/line.rt:43:1
 same-length : tie.Need-same-length Inv-loop μ-loop

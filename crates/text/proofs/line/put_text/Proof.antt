@@ -5,7 +5,7 @@ use mathlib.Core.Path.{_≡_, refl, sym, ap, subst, _∙_}
 use lib.ListN.{length, getD, drop}
 use mathlib.Core.List.{List, [], _∷_}
 use Rattle.text.specs.Put.{PutAt, put-set, Going, going-start}
-use Rattle.text.proofs.Loops.{walk-room, walk-on, walk-out}
+use Rattle.text.specs.Walk.{walk-room, walk-on, walk-out}
 use Rattle.text.proofs.line.put_text.Statement.{statement}
 use Rattle.text.proofs.line.put_text.Tie as tie
 use Rattle.text.proofs.line.put_text.Reads as reads
@@ -27,7 +27,7 @@ shared-slice-read-out c = search needs
 
 -- src/line.rt:28:9
 slice-write-out : tie.Need-slice-write-out Inv-loop μ-loop
-slice-write-out c = omega (arith, walk-room (λ (l : List ℕ). l) (λ (x : ℕ). x ∷ []) refl (λ x xs. refl) _ _ _ (c .before .before .before .pre) _ _ _ (c .before .before .loop .inv .1) (c .before .loop-test .taken))
+slice-write-out c = omega (arith, walk-room (λ (l : List ℕ). l) (λ (x : ℕ). x ∷ []) refl (λ x xs. refl) _ _ _ (c .before .before .before .pre) _ _ _ (c .before .before .loop .inv .1) 0 (c .before .loop-test .taken))
 
 -- src/line.rt:29:17
 add-place : tie.Need-add-place Inv-loop μ-loop
@@ -43,7 +43,7 @@ loop-less c = search needs
 
 -- src/line.rt:27:5
 loop-again : tie.Need-loop-again Inv-loop μ-loop
-loop-again c = (omega arith, walk-on (λ (l : List ℕ). l) (λ (x : ℕ). x ∷ []) refl (λ x xs. refl) _ _ _ (c .before .before .before .pre) _ _ _ (c .before .before .loop .inv .1) (c .before .loop-test .taken) _ _ (put-set _ _ _ (omega (arith, walk-room (λ (l : List ℕ). l) (λ (x : ℕ). x ∷ []) refl (λ x xs. refl) _ _ _ (c .before .before .before .pre) _ _ _ (c .before .before .loop .inv .1) (c .before .loop-test .taken)))))
+loop-again c = (omega arith, walk-on (λ (l : List ℕ). l) (λ (x : ℕ). x ∷ []) refl (λ x xs. refl) _ _ _ (c .before .before .before .pre) _ _ _ (c .before .before .loop .inv .1) 0 (c .before .loop-test .taken) _ _ (put-set _ _ _ (omega (arith, walk-room (λ (l : List ℕ). l) (λ (x : ℕ). x ∷ []) refl (λ x xs. refl) _ _ _ (c .before .before .before .pre) _ _ _ (c .before .before .loop .inv .1) 0 (c .before .loop-test .taken)))))
 
 -- src/line.rt:21:1
 same-length : tie.Need-same-length Inv-loop μ-loop
