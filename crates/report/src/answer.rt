@@ -5,6 +5,7 @@ ghost use Rattle.text.specs.Line.{Placed};
 ghost use mathlib.Core.Path.{_≡_};
 ghost use mathlib.Core.List.{[], _∷_, _++_};
 ghost use Rattle.frame.specs.Refusals.{numberOf};
+use super::group::write_groups;
 use frame::refusal::Refusal;
 use frame::refusal::number;
 use receiver::answer::Answer;
@@ -12,10 +13,9 @@ use receiver::answer::Ending;
 use receiver::answer::Message;
 use receiver::answer::Rejection;
 use receiver::answer::Taken;
-use super::group::write_groups;
 use text::Wrote;
-use text::line::write_plain;
 use text::line::write_line;
+use text::line::write_plain;
 use text::line::write_two;
 use transport::Key;
 use transport::Kind;
@@ -64,7 +64,11 @@ pub fn ending_numbers(ending: Ending) -> [u64; 3]
 {
     let refusal = ending.refusal;
     let n = number(refusal);
-    [ending.key.sa.0 as u64, ending.key.session.0 as u64, n as u64]
+    [
+        ending.key.sa.0 as u64,
+        ending.key.session.0 as u64,
+        n as u64,
+    ]
 }
 
 fn write_ending(out: &mut [u8], at: usize, ending: Ending) -> Wrote

@@ -19,7 +19,12 @@ fn group_numbers(id: u32, group: Group) -> [u64; 4]
     ensures { λ r. ⌜ r ≡ groupNumbers id group ⌝ }
 {
     let f = identifier::read(id);
-    [f.sa.0 as u64, f.ps as u64, group.pgn as u64, group.len as u64]
+    [
+        f.sa.0 as u64,
+        f.ps as u64,
+        group.pgn as u64,
+        group.len as u64,
+    ]
 }
 
 fn left_after_group(room: usize, id: u32, group: Group) -> Left

@@ -1,3 +1,5 @@
+use Rattle.text.specs.Walk.{count-cut, count-on, count-out}
+use Rattle.report.proofs.Ends.{slotLines, none, no-ends, more-ends}
 use Prim.Native.Nat.{ℕ, _+_, _-_, _≤_}
 use native.Mathlib.Omega.{arith}
 use mathlib.Core.Path.{_≡_, refl, sym, ap, subst, _∙_}
@@ -21,7 +23,7 @@ abbrev μ-loop : tie.MeasureT-loop
 
 -- src/reading.rt:73:5
 loop-holds : tie.Need-loop-holds Inv-loop μ-loop
-loop-holds c = ?
+loop-holds c = (omega arith, search needs, refl)
 
 -- src/reading.rt:74:20
 mul-slot : tie.Need-mul-slot Inv-loop μ-loop
@@ -45,7 +47,7 @@ enum-told c = search needs
 
 -- src/reading.rt:77:13
 returns : tie.Need-returns Inv-loop μ-loop
-returns c = ?
+returns c = count-cut endsLines slotLines no-ends more-ends _ _ _ _ (c .before .before .before .before .before .loop .inv .2) none (omega (arith, c .before .before .before .before .loop-test .taken, c .before .before .before .before .before .loop .inv .1)) (sym (c .before .before .left-after-end .ensures) ∙ c .enum-told .given .1)
 
 -- src/reading.rt:80:13
 add-i : tie.Need-add-i Inv-loop μ-loop
@@ -57,11 +59,11 @@ loop-less c = search needs
 
 -- src/reading.rt:73:5
 loop-again : tie.Need-loop-again Inv-loop μ-loop
-loop-again c = ?
+loop-again c = (omega arith, c .before .before .before .before .before .before .loop .inv .1, count-on endsLines slotLines no-ends more-ends _ _ _ _ (c .before .before .before .before .before .before .loop .inv .2) none (omega (arith, c .before .before .before .before .before .loop-test .taken, c .before .before .before .before .before .before .loop .inv .1)) _ (sym (c .before .before .before .left-after-end .ensures) ∙ c .before .behind .given .1))
 
 -- src/reading.rt:68:1
 returns-2 : tie.Need-returns-2 Inv-loop μ-loop
-returns-2 c = ?
+returns-2 c = count-out endsLines slotLines no-ends more-ends (c .before .before .args .t2) _ _ (c .before .loop .i) (c .before .loop .inv .2) (omega (arith, c .loop-test .left, c .before .loop .inv .1))
 
 pub left-after-ends-spec : {M : Type 1} → statement M
 left-after-ends-spec =

@@ -1,3 +1,7 @@
+use native.Mathlib.Omega.{arith}
+use mathlib.Core.Path.{sym, _∙_}
+use Rattle.text.specs.Line.{placed-short, placed-put, left-cut, left-room}
+use Rattle.report.specs.Lines.{endsLines}
 use borrow.Author.Needs.{needs}
 use Rattle.report.proofs.reading.write_ends.Statement.{statement}
 use Rattle.report.proofs.reading.write_ends.Tie as tie
@@ -8,7 +12,7 @@ use Rattle.report.proofs.reading.put_ends.Reads as put-ends-reads
 
 -- src/reading.rt:105:9
 returns : tie.Need-returns
-returns c = ?
+returns c = placed-short (c .before .before .args .out .now) (c .before .before .args .at) (endsLines (c .before .before .args .ends)) (omega (arith, c .if1 .taken))
 
 -- src/reading.rt:107:27
 left-after-ends-requires : tie.Need-left-after-ends-requires
@@ -23,11 +27,11 @@ enum-told-2 c = search needs
 
 -- src/reading.rt:108:9
 returns-2 : tie.Need-returns-2
-returns-2 c = ?
+returns-2 c = left-cut (c .before .before .before .before .before .args .out .now) (c .before .before .before .before .before .args .at) (endsLines (c .before .before .before .before .before .args .ends)) (c .before .before .before .if1 .left) (sym (c .before .before .left-after-ends .ensures) ∙ c .enum-told2 .given .1)
 
 -- src/reading.rt:110:20
 put-ends-requires : tie.Need-put-ends-requires
-put-ends-requires c κs = ?
+put-ends-requires c κs = left-room (c .before .before .before .before .before .before .args .out .now) (c .before .before .before .before .before .before .args .at) (endsLines (c .before .before .before .before .before .before .args .ends)) (c .before .before .before .before .if1 .left) _ (sym (c .before .before .before .left-after-ends .ensures) ∙ c .before .enum-told .given .1)
 
 -- src/reading.rt:100:1
 same-length : tie.Need-same-length
@@ -35,7 +39,7 @@ same-length c = search needs
 
 -- src/reading.rt:100:1
 returns-3 : tie.Need-returns-3
-returns-3 c = ?
+returns-3 c = placed-put (c .before .before .before .before .before .before .before .before .before .args .out .now) (c .before .before .before .before .before .before .before .before .before .args .at) (endsLines (c .before .before .before .before .before .before .before .before .before .args .ends)) (left-room (c .before .before .before .before .before .before .before .before .before .args .out .now) (c .before .before .before .before .before .before .before .before .before .args .at) (endsLines (c .before .before .before .before .before .before .before .before .before .args .ends)) (c .before .before .before .before .before .before .before .if1 .left) _ (sym (c .before .before .before .before .before .before .left-after-ends .ensures) ∙ c .before .before .before .before .enum-told .given .1)) _ _ (c .before .before .put-ends .ensures)
 
 pub write-ends-spec : {M : Type 1} → statement M
 write-ends-spec =

@@ -1,3 +1,7 @@
+use mathlib.Core.Path.{ap}
+use Rattle.receiver.specs.declared.answer.Kept.{Kept}
+use Rattle.text.specs.Line.{placed-by}
+use Rattle.report.specs.Lines.{readingLines}
 use borrow.Author.Needs.{needs}
 use Rattle.report.proofs.reading.write_reading.Statement.{statement}
 use Rattle.report.proofs.reading.write_reading.Tie as tie
@@ -28,7 +32,7 @@ same-length c = search needs
 
 -- src/reading.rt:114:1
 returns : tie.Need-returns
-returns c = ?
+returns c = placed-by (ap (λ (k : Kept). readingLines k (c .before .before .before .before .before .before .before .args .ends)) (c .before .before .before .before .enum-told .given .1)) (c .before .before .write-ends .ensures)
 
 -- src/reading.rt:114:1
 same-length-2 : tie.Need-same-length-2
@@ -36,7 +40,7 @@ same-length-2 c = search needs
 
 -- src/reading.rt:114:1
 returns-2 : tie.Need-returns-2
-returns-2 c = ?
+returns-2 c = placed-by (ap (λ (k : Kept). readingLines k (c .before .before .before .before .before .before .before .before .args .ends)) (c .before .before .before .before .before .answer .given .1)) (c .before .before .write-refused .ensures)
 
 pub write-reading-spec : {M : Type 1} → statement M
 write-reading-spec =
