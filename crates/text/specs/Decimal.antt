@@ -65,6 +65,18 @@ pub decimal-large : (n : ℕ) → 10 ≤ n → decimal n ≡ decimal (n / 10) ++
 unfolding decimal digitsOf
 decimal-large n h = ap (λ (w : ℕ). digitsOf w n) (width-large n h)
 
+-- two digits, and three
+pub decimal-two : (n : ℕ) → 10 ≤ n → n < 100 → decimal n ≡ (48 + n / 10) ∷ (48 + n % 10) ∷ []
+decimal-two n h k =
+    decimal-large n h ∙ ap (λ (l : List ℕ). l ++ ((48 + n % 10) ∷ [])) (decimal-small (n / 10) (omega arith))
+
+pub decimal-three : (n : ℕ) → 100 ≤ n → n < 1000 → decimal n ≡ (48 + n / 100) ∷ (48 + n / 10 % 10) ∷ (48 + n % 10) ∷ []
+decimal-three n h k =
+    let e : n / 10 / 10 ≡ n / 100 = omega arith in
+    decimal-large n (omega arith)
+    ∙ ap (λ (l : List ℕ). l ++ ((48 + n % 10) ∷ [])) (decimal-two (n / 10) (omega arith) (omega arith))
+    ∙ ap (λ (m : ℕ). (48 + m) ∷ (48 + n / 10 % 10) ∷ (48 + n % 10) ∷ []) e
+
 -- ---- that this is the decimal form: its digits read back give the number, and the first is no 0 but in "0"
 
 abbrev pub valueFrom : ℕ → List ℕ → ℕ

@@ -3,9 +3,9 @@ use Prim.Native.Nat.{ℕ, suc, _+_, _-_, _<_, _≤_}
 use native.Mathlib.Numerals.{add-one}
 use native.Mathlib.Nat.{add-assoc, add-zero}
 use native.Mathlib.Omega.{arith}
-use mathlib.Core.Path.{_≡_, refl, sym, ap, _∙_}
+use mathlib.Core.Path.{_≡_, refl, sym, ap, subst, _∙_}
 use mathlib.Core.List.{List, [], _∷_, _++_, append-assoc, append-nil}
-use lib.ListN.{length, getD, set, take, drop, length-append, length-take, length-drop, take-append-drop}
+use lib.ListN.{length, getD, set, take, drop, length-append, length-drop, length-set, take-append-drop}
 use lib.Seq.{take-at, drop-at, drop-drop, length-take-le, set-split, set-at, take-suc, append-snoc}
 
 -- x in the place of as many elements from at on
@@ -68,6 +68,9 @@ pub record PutAt (d : List ℕ) (at : ℕ) (x : List ℕ) (next : ℕ) (out : Li
   pub place : next ≡ at + length x
   pub bytes : out ≡ put d at x
 
+pub put-by : {d : List ℕ} {at : ℕ} {x y : List ℕ} {next : ℕ} {out : List ℕ} → x ≡ y → PutAt d at y next out → PutAt d at x next out
+put-by {d} {at} {x} {y} {next} {out} e p = subst (λ (z : List ℕ). PutAt d at z next out) (sym e) p
+
 pub put-set : (d : List ℕ) (at v : ℕ) → at < length d → PutAt d at (v ∷ []) (at + 1) (set d at v)
 put-set d at v h = record { place = refl; bytes = put-one d at v h }
 
@@ -83,6 +86,22 @@ module _ (d : List ℕ) (at : ℕ) (x : List ℕ) (p : ℕ) (o : List ℕ) (room
         place = simp length-append (omega arith);
         bytes = v .bytes ∙ ap (λ (k : ℕ). put o k y) a ∙ ap (λ (l : List ℕ). put l (at + length x) y) (w .bytes) ∙ put-put d at x (omega arith) y;
       }
+
+-- two stores behind each other, and three
+pub put-set-two : (d : List ℕ) (at a b : ℕ) → at + 2 ≤ length d → PutAt d at (a ∷ b ∷ []) (at + 2) (set (set d at a) (at + 1) b)
+put-set-two d at a b h =
+    let w = put-set d at a (omega arith) in
+    let l : at + 1 < length (set d at a) = simp length-set (omega arith) in
+    let v = put-then d at (a ∷ []) (at + 1) (set d at a) (omega arith) w (b ∷ []) (at + 1 + 1) (set (set d at a) (at + 1) b) (put-set (set d at a) (at + 1) b l) in
+    record { place = omega arith; bytes = v .bytes }
+
+pub put-set-three : (d : List ℕ) (at a b c : ℕ) → at + 3 ≤ length d → PutAt d at (a ∷ b ∷ c ∷ []) (at + 3) (set (set (set d at a) (at + 1) b) (at + 2) c)
+put-set-three d at a b c h =
+    let o : List ℕ = set (set d at a) (at + 1) b in
+    let w = put-set-two d at a b (omega arith) in
+    let l : at + 2 < length o = simp length-set (omega arith) in
+    let v = put-then d at (a ∷ b ∷ []) (at + 2) o (omega arith) w (c ∷ []) (at + 2 + 1) (set o (at + 2) c) (put-set o (at + 2) c l) in
+    record { place = omega arith; bytes = v .bytes }
 
 -- ---- a loop that writes: what is left to write at p, and it makes the whole
 pub record Going (d : List ℕ) (at : ℕ) (whole : List ℕ) (out : List ℕ) (p : ℕ) (rest : List ℕ) : Type 0 where

@@ -33,3 +33,36 @@ pub fn put_number(out: &mut [u8], at: usize, n: u64) -> usize
     }
     end
 }
+
+// ---- The same for a byte, of at most three digits, with no loop: a message has thousands of them.
+
+pub fn octet_width(n: u8) -> usize
+    ensures { λ r. ⌜ r ≡ widthOf n ⌝ }
+{
+    if n < 10 {
+        return 1;
+    }
+    if n < 100 {
+        return 2;
+    }
+    3
+}
+
+pub fn put_octet(out: &mut [u8], at: usize, n: u8) -> usize
+    requires { ⌜ at + length (decimal n) ≤ length (now out) ⌝ }
+    ensures { λ r. ⌜ PutAt (now (out .entry)) at (decimal n) r (now (out .exit)) ⌝ }
+{
+    if n < 10 {
+        out[at] = 48 + n;
+        return at + 1;
+    }
+    if n < 100 {
+        out[at] = 48 + n / 10;
+        out[at + 1] = 48 + n % 10;
+        return at + 2;
+    }
+    out[at] = 48 + n / 100;
+    out[at + 1] = 48 + n / 10 % 10;
+    out[at + 2] = 48 + n % 10;
+    at + 3
+}

@@ -7,14 +7,10 @@ ghost use Rattle.text.specs.Line.{spaced, numbers, lineOf, leftBy, Place
 ghost use Rattle.text.specs.Put.{PutAt};
 use super::Left;
 use super::Wrote;
+use super::decimal::octet_width;
 use super::decimal::put_number;
+use super::decimal::put_octet;
 use super::decimal::width;
-
-fn wide(x: u8) -> u64
-    ensures { λ r. ⌜ r ≡ x ⌝ }
-{
-    x as u64
-}
 
 // ---- The parts of a line, where the caller has seen that there is room.
 
@@ -40,6 +36,14 @@ fn put_spaced(out: &mut [u8], at: usize, n: u64) -> usize
     put_number(out, at + 1, n)
 }
 
+fn put_spaced_octet(out: &mut [u8], at: usize, n: u8) -> usize
+    requires { ⌜ at + length (spaced n) ≤ length (now out) ⌝ }
+    ensures { λ r. ⌜ PutAt (now (out .entry)) at (spaced n) r (now (out .exit)) ⌝ }
+{
+    out[at] = 32;
+    put_octet(out, at + 1, n)
+}
+
 fn put_fields(out: &mut [u8], at: usize, fields: &[u64]) -> usize
     requires { ⌜ at + length (numbers (now fields)) ≤ length (now out) ⌝ }
     ensures { λ r. ⌜ PutAt (now (out .entry)) at (numbers (now (fields .entry))) r (now (out .exit)) ⌝ }
@@ -60,7 +64,7 @@ fn put_octets(out: &mut [u8], at: usize, octets: &[u8]) -> usize
     let mut place = at;
     let mut i: usize = 0;
     while i < octets.len() {
-        place = put_spaced(out, place, wide(octets[i]));
+        place = put_spaced_octet(out, place, octets[i]);
         i = i + 1;
     }
     place
@@ -90,7 +94,7 @@ fn left_after_octets(room: usize, octets: &[u8]) -> Left
     let mut left = room;
     let mut i: usize = 0;
     while i < octets.len() {
-        let digits = width(wide(octets[i]));
+        let digits = octet_width(octets[i]);
         if left <= digits {
             return Left::Short;
         }

@@ -11,8 +11,7 @@ use Rattle.text.proofs.line.put_octets.Statement.{statement}
 use Rattle.text.proofs.line.put_octets.Tie as tie
 use Rattle.text.proofs.line.put_octets.Reads as reads
 use Rattle.text.proofs.line.put_octets.Lts as lts
-use Rattle.text.proofs.line.put_spaced.Reads as put-spaced-reads
-use Rattle.text.proofs.line.wide.Reads as wide-reads
+use Rattle.text.proofs.line.put_spaced_octet.Reads as put-spaced-octet-reads
 
 abbrev Inv-loop : tie.InvT-loop
 Inv-loop out₀ at octets place₀ i₀ out place i = (i ≤ length octets) × Going out₀ at (numbers octets) out place (numbers (drop i octets))
@@ -20,39 +19,35 @@ Inv-loop out₀ at octets place₀ i₀ out place i = (i ≤ length octets) × G
 abbrev μ-loop : tie.MeasureT-loop
 μ-loop out₀ at octets place₀ i₀ out place i = length octets - i
 
--- src/line.rt:62:5
+-- src/line.rt:49:5
 loop-holds : tie.Need-loop-holds Inv-loop μ-loop
 loop-holds c = (omega arith, going-start _ _ _)
 
--- src/line.rt:63:45
-shared-slice-read-wide : tie.Need-shared-slice-read-wide Inv-loop μ-loop
-shared-slice-read-wide c = search needs
+-- src/line.rt:50:40
+shared-slice-read-put-spaced-octet : tie.Need-shared-slice-read-put-spaced-octet Inv-loop μ-loop
+shared-slice-read-put-spaced-octet c = search needs
 
--- src/line.rt:63:40
-wide-requires : tie.Need-wide-requires Inv-loop μ-loop
-wide-requires c κs = search needs
+-- src/line.rt:50:9
+put-spaced-octet-requires : tie.Need-put-spaced-octet-requires Inv-loop μ-loop
+put-spaced-octet-requires c κs = walk-room numbers spaced no-numbers more-numbers _ _ _ (c .before .before .before .before .before .before .pre) _ _ _ (c .before .before .before .loop .inv .1) 0 (c .before .before .loop-test .taken)
 
--- src/line.rt:63:9
-put-spaced-requires : tie.Need-put-spaced-requires Inv-loop μ-loop
-put-spaced-requires c κs = subst (λ (n : ℕ). c .before .before .before .before .loop .place + length (spaced n) ≤ length (c .before .before .before .before .loop .out)) (sym (c .wide .ensures)) (walk-room numbers spaced no-numbers more-numbers _ _ _ (c .before .before .before .before .before .before .before .pre) _ _ _ (c .before .before .before .before .loop .inv .1) 0 (c .before .before .before .loop-test .taken))
-
--- src/line.rt:64:13
+-- src/line.rt:51:13
 add-i : tie.Need-add-i Inv-loop μ-loop
 add-i c = search needs
 
--- src/line.rt:62:5
+-- src/line.rt:49:5
 loop-less : tie.Need-loop-less Inv-loop μ-loop
 loop-less c = search needs
 
--- src/line.rt:62:5
+-- src/line.rt:49:5
 loop-again : tie.Need-loop-again Inv-loop μ-loop
-loop-again c = (omega arith, walk-on numbers spaced no-numbers more-numbers _ _ _ (c .before .before .before .before .before .before .before .before .before .before .pre) _ _ _ (c .before .before .before .before .before .before .before .loop .inv .1) 0 (c .before .before .before .before .before .before .loop-test .taken) _ _ (subst (λ (n : ℕ). PutAt (c .before .before .before .before .before .before .before .loop .out) (c .before .before .before .before .before .before .before .loop .place) (spaced n) (c .before .before .put-spaced .result) (c .before .before .put-spaced .last .0)) (c .before .before .before .wide .ensures) (c .before .before .put-spaced .ensures)))
+loop-again c = (omega arith, walk-on numbers spaced no-numbers more-numbers _ _ _ (c .before .before .before .before .before .before .before .before .before .pre) _ _ _ (c .before .before .before .before .before .before .loop .inv .1) 0 (c .before .before .before .before .before .loop-test .taken) _ _ (c .before .before .put-spaced-octet .ensures))
 
--- src/line.rt:56:1
+-- src/line.rt:43:1
 same-length : tie.Need-same-length Inv-loop μ-loop
 same-length c = search needs
 
--- src/line.rt:56:1
+-- src/line.rt:43:1
 returns : tie.Need-returns Inv-loop μ-loop
 returns c = walk-out numbers spaced no-numbers more-numbers _ _ _ (c .before .before .before .before .pre) _ _ _ (c .before .loop .inv .1) (c .loop-test .left)
 
@@ -63,9 +58,8 @@ put-octets-spec =
     Inv-loop
     μ-loop
     loop-holds
-    shared-slice-read-wide
-    wide-requires
-    put-spaced-requires
+    shared-slice-read-put-spaced-octet
+    put-spaced-octet-requires
     add-i
     loop-less
     loop-again
