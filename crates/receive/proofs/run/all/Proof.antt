@@ -1,0 +1,73 @@
+use borrow.Author.Needs.{needs}
+use mathlib.Core.Path.{_≡_, refl}
+use lib.ListN.{length}
+use native.Mathlib.Omega.{arith}
+use Rattle.receive.proofs.run.all.Statement.{statement}
+use Rattle.receive.proofs.run.all.Tie as tie
+use Rattle.receive.proofs.run.all.Reads as reads
+use Rattle.receive.proofs.run.all.Lts as lts
+use Rattle.receive.proofs.output.flush.Reads as flush-reads
+use Rattle.receive.proofs.run.turn.Reads as turn-reads
+
+abbrev Inv-loop : tie.InvT-loop
+Inv-loop window₀ store₀ lines₀ r₀ turns₀ window store lines r turns = (length window ≡ length window₀) × (length store ≡ length store₀) × (length lines ≡ length lines₀)
+
+abbrev μ-loop : tie.MeasureT-loop
+μ-loop window₀ store₀ lines₀ r₀ turns₀ window store lines r turns = turns
+
+-- src/run.rt:193:5
+loop-holds : tie.Need-loop-holds Inv-loop μ-loop
+loop-holds c = search needs
+
+-- src/run.rt:197:9
+turn-requires : tie.Need-turn-requires Inv-loop μ-loop
+turn-requires c κs = search needs
+
+-- src/run.rt:198:17
+sub-turns : tie.Need-sub-turns Inv-loop μ-loop
+sub-turns c = search needs
+
+-- src/run.rt:193:5
+loop-less : tie.Need-loop-less Inv-loop μ-loop
+loop-less c = search needs
+
+-- src/run.rt:193:5
+loop-again : tie.Need-loop-again Inv-loop μ-loop
+loop-again c = search needs
+
+-- src/run.rt:200:5
+flush-requires : tie.Need-flush-requires Inv-loop μ-loop
+flush-requires c κs = search needs
+
+-- src/run.rt:190:1
+same-length : tie.Need-same-length Inv-loop μ-loop
+same-length c = search needs
+
+-- src/run.rt:190:1
+same-length-2 : tie.Need-same-length-2 Inv-loop μ-loop
+same-length-2 c = search needs
+
+-- src/run.rt:190:1
+same-length-3 : tie.Need-same-length-3 Inv-loop μ-loop
+same-length-3 c = search needs
+
+-- src/run.rt:190:1
+returns : tie.Need-returns Inv-loop μ-loop
+returns c = search needs
+
+pub all-spec : {M : Type 1} → statement M
+all-spec =
+    tie.close
+    (tie.spec
+    Inv-loop
+    μ-loop
+    loop-holds
+    turn-requires
+    sub-turns
+    loop-less
+    loop-again
+    flush-requires
+    same-length
+    same-length-2
+    same-length-3
+    returns)
