@@ -8,7 +8,6 @@ use Rattle.slots.specs.Slots.{freeSlot}
 use Rattle.slots.specs.Bounds.{openingOk, slotsOk}
 use Rattle.receiver.specs.declared.Receiver.{Receiver}
 use Rattle.receiver.specs.declared.answer.Opened.{Opened}
-use Rattle.receiver.specs.declared.answer.Opening.{Opening}
 use Rattle.receiver.specs.declared.answer.Opening.the-variants.{Accepted, Refused}
 
 unfoldable pub inBounds : Receiver → Bool

@@ -1,9 +1,9 @@
 -- One turn of a search over the slots, for any test. `r` is what the search finds in the end, and `b` the test's answer at slot i.
-use Prim.Native.Nat.{ℕ, _+_, _<_, _≤_, suc}
+use Prim.Native.Nat.{ℕ, _+_, _<_, _≤_}
 use native.Mathlib.Numerals.{add-one}
-use mathlib.Core.Path.{_≡_, refl, sym, ap, _∙_}
+use mathlib.Core.Path.{_≡_, sym, ap, _∙_}
 use mathlib.Core.Bool.{Bool, true, false, cond}
-use mathlib.Core.List.{List, [], _∷_}
+use mathlib.Core.List.{List}
 use lib.ListN.{length, getD, drop, drop-of-length-le}
 use lib.Seq.{drop-cons}
 use Rattle.slots.specs.declared.Slot.{Slot}

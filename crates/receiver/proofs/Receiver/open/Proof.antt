@@ -1,14 +1,12 @@
 use borrow.Author.Needs.{needs}
 use mathlib.Core.Path.{_≡_, refl, sym, _∙_}
 use Rattle.laws.specs.Choice.{then, else}
-use Rattle.receiver.specs.Bounds.{opened, openedWith}
+use Rattle.receiver.specs.Bounds.{opened}
 use Rattle.receiver.specs.declared.answer.Opened.{Opened}
 use Rattle.receiver.specs.declared.answer.Opening.{Opening}
 use Rattle.receiver.specs.declared.Receiver.{Receiver}
 use Rattle.receiver.proofs.Receiver.open.Statement.{statement}
 use Rattle.receiver.proofs.Receiver.open.Tie as tie
-use Rattle.receiver.proofs.Receiver.open.Reads as reads
-use Rattle.receiver.proofs.Receiver.open.Lts as lts
 
 answering : (r : Receiver) (a b : Opening) → a ≡ b → _≡_ {A = Opened} (record { receiver = r; answer = a }) (record { receiver = r; answer = b })
 answering r a b e = rw e
@@ -16,12 +14,10 @@ answering r a b e = rw e
 opening-ok-requires : tie.Need-opening-ok-requires
 opening-ok-requires c κs = search needs
 
--- src/lib.rt:45:13
 returns : tie.Need-returns
 unfolding opened
 returns c = answering _ _ _ (then _ _ _ _ (sym (c .before .opening-ok .ensures) ∙ c .if1 .taken) refl)
 
--- src/lib.rt:33:5
 returns-2 : tie.Need-returns-2
 unfolding opened
 returns-2 c = answering _ _ _ (else _ _ _ _ (sym (c .before .opening-ok .ensures) ∙ c .if1 .left) refl)

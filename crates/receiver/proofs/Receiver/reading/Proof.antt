@@ -12,34 +12,24 @@ use Rattle.receiver.specs.Calls.{readingStep}
 use borrow.Author.Needs.{needs}
 use Rattle.receiver.proofs.Receiver.reading.Statement.{statement}
 use Rattle.receiver.proofs.Receiver.reading.Tie as tie
-use Rattle.receiver.proofs.Receiver.reading.Reads as reads
-use Rattle.receiver.proofs.Receiver.reading.Lts as lts
-use Rattle.receiver.proofs.Receiver.is_ready.Reads as is-ready-reads
-use Rattle.receiver.proofs.clock.ends.Reads as ends-reads
-use Rattle.receiver.proofs.clock.expire_all.Reads as expire-all-reads
 
 elapsed : (own : Address) (limit t : ℕ) (l m : List Slot) (x y : List SlotEnd) → l ≡ m → x ≡ y
     → _≡_ {A = Elapsed} (record { next = record { own = own; limit = limit; last = t; slots = l }; answer = kept.Kept; ends = x }) (record { next = record { own = own; limit = limit; last = t; slots = m }; answer = kept.Kept; ends = y })
 elapsed own limit t l m x y p q = rw (p, q)
 
--- src/clock.rt:91:13
 is-ready-requires : tie.Need-is-ready-requires
 is-ready-requires c κs = search needs
 
--- src/clock.rt:92:13
 returns : tie.Need-returns
 unfolding readingStep
 returns c = else _ _ _ _ (sym (c .before .is-ready .ensures) ∙ not-true _ (c .if1 .taken)) refl
 
--- src/clock.rt:104:20
 expire-all-requires : tie.Need-expire-all-requires
 expire-all-requires c κs = search needs
 
--- src/clock.rt:109:19
 ends-requires : tie.Need-ends-requires
 ends-requires c κs = search needs
 
--- src/clock.rt:88:5
 returns-2 : tie.Need-returns-2
 unfolding readingStep
 returns-2 c =

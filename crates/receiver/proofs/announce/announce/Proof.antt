@@ -6,48 +6,32 @@ use Rattle.receiver.proofs.Cases.{by-case}
 use borrow.Author.Needs.{needs}
 use Rattle.receiver.proofs.announce.announce.Statement.{statement}
 use Rattle.receiver.proofs.announce.announce.Tie as tie
-use Rattle.receiver.proofs.announce.announce.Reads as reads
-use Rattle.receiver.proofs.announce.announce.Lts as lts
-use Rattle.receiver.proofs.announce.reject.Reads as reject-reads
-use Rattle.receiver.proofs.announce.take_slot.Reads as take-slot-reads
-use Rattle.receiver.proofs.step.refuse.Reads as refuse-reads
-use Rattle.session.proofs.announcement.is_misdirected.Reads as is-misdirected-reads
-use Rattle.session.proofs.announcement.judge_form.Reads as judge-form-reads
 
--- src/announce.rt:85:8
 is-misdirected-requires : tie.Need-is-misdirected-requires
 is-misdirected-requires c κs = search needs
 
--- src/announce.rt:86:9
 refuse-requires : tie.Need-refuse-requires
 refuse-requires c κs = search needs
 
--- src/announce.rt:86:9
 returns : tie.Need-returns
 unfolding announceStep
 returns c = then _ _ _ _ (sym (c .before .before .is-misdirected .ensures) ∙ c .before .if1 .taken) (c .refuse .ensures)
 
--- src/announce.rt:88:11
 judge-form-requires : tie.Need-judge-form-requires
 judge-form-requires c κs = search needs
 
--- src/announce.rt:89:23
 enum-told : tie.Need-enum-told
 enum-told c = search needs
 
--- src/announce.rt:89:23
 take-slot-requires : tie.Need-take-slot-requires
 take-slot-requires c κs = search needs
 
--- src/announce.rt:90:19
 enum-known-n : tie.Need-enum-known-n
 enum-known-n c = search needs
 
--- src/announce.rt:90:25
 reject-requires : tie.Need-reject-requires
 reject-requires c κs = search needs
 
--- src/announce.rt:81:1
 returns-2 : tie.Need-returns-2
 unfolding announceStep
 returns-2 c =
@@ -55,7 +39,6 @@ returns-2 c =
     else _ _ _ _ (sym (c .before .before .before .before .before .is-misdirected .ensures) ∙ c .before .before .before .before .if1 .left)
     (by-case (λ (z : Form). onForm z (a .r) (a .k) (a .a)) _ _ _ _ (c .before .before .before .judge-form .ensures) (c .before .enum-told .given .1) (c .take-slot .ensures))
 
--- src/announce.rt:81:1
 returns-3 : tie.Need-returns-3
 unfolding announceStep
 returns-3 c =

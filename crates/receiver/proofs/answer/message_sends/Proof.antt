@@ -1,22 +1,16 @@
 use borrow.Author.Needs.{needs}
 use Rattle.receiver.proofs.answer.message_sends.Statement.{statement}
 use Rattle.receiver.proofs.answer.message_sends.Tie as tie
-use Rattle.receiver.proofs.answer.message_sends.Reads as reads
-use Rattle.receiver.proofs.answer.message_sends.Lts as lts
 
--- src/answer.rt:168:51
 enum-told : tie.Need-enum-told
 enum-told c = search needs
 
--- src/answer.rt:174:22
 enum-told-2 : tie.Need-enum-told-2
 enum-told-2 c = search needs
 
--- src/answer.rt:160:1
 returns : tie.Need-returns
 returns c = rw (c .enum-told .given .1)
 
--- src/answer.rt:160:1
 returns-2 : tie.Need-returns-2
 returns-2 c = search needs
 

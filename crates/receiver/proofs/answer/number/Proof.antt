@@ -1,91 +1,67 @@
 use borrow.Author.Needs.{needs}
 use Rattle.receiver.proofs.answer.number.Statement.{statement}
 use Rattle.receiver.proofs.answer.number.Tie as tie
-use Rattle.receiver.proofs.answer.number.Reads as reads
-use Rattle.receiver.proofs.answer.number.Lts as lts
-use Rattle.frame.proofs.refusal.number.Reads as number-reads
 
--- src/answer.rt:118:27
 enum-told : tie.Need-enum-told
 enum-told c = search needs
 
--- src/answer.rt:119:30
 enum-told-2 : tie.Need-enum-told-2
 enum-told-2 c = search needs
 
--- src/answer.rt:120:29
 enum-told-3 : tie.Need-enum-told-3
 enum-told-3 c = search needs
 
--- src/answer.rt:121:29
 enum-told-4 : tie.Need-enum-told-4
 enum-told-4 c = search needs
 
--- src/answer.rt:122:34
 enum-told-5 : tie.Need-enum-told-5
 enum-told-5 c = search needs
 
--- src/answer.rt:123:31
 enum-told-6 : tie.Need-enum-told-6
 enum-told-6 c = search needs
 
--- src/answer.rt:124:23
 enum-known-a : tie.Need-enum-known-a
 enum-known-a c = search needs
 
--- src/answer.rt:126:13
 number-requires : tie.Need-number-requires
 number-requires c κs = search needs
 
--- src/answer.rt:128:28
 enum-known-a-2 : tie.Need-enum-known-a-2
 enum-known-a-2 c = search needs
 
--- src/answer.rt:130:13
 number-requires-2 : tie.Need-number-requires-2
 number-requires-2 c κs = search needs
 
--- src/answer.rt:132:25
 enum-known-a-3 : tie.Need-enum-known-a-3
 enum-known-a-3 c = search needs
 
--- src/answer.rt:132:31
 number-requires-3 : tie.Need-number-requires-3
 number-requires-3 c κs = search needs
 
--- src/answer.rt:114:1
 returns : tie.Need-returns
 returns c = search needs
 
--- src/answer.rt:114:1
 returns-2 : tie.Need-returns-2
 returns-2 c = search needs
 
--- src/answer.rt:114:1
 returns-3 : tie.Need-returns-3
 returns-3 c = search needs
 
--- src/answer.rt:114:1
 returns-4 : tie.Need-returns-4
 returns-4 c = search needs
 
--- src/answer.rt:114:1
 returns-5 : tie.Need-returns-5
 returns-5 c = search needs
 
--- src/answer.rt:114:1
 returns-6 : tie.Need-returns-6
 returns-6 c = search needs
 
--- src/answer.rt:114:1
 returns-7 : tie.Need-returns-7
 returns-7 c = search needs
 
--- src/answer.rt:114:1
 returns-8 : tie.Need-returns-8
 returns-8 c = search needs
 
--- src/answer.rt:114:1
 returns-9 : tie.Need-returns-9
 returns-9 c = rw (c .before .before .a3 .given .1) (c .number3 .ensures)
 

@@ -1,93 +1,67 @@
 use borrow.Author.Needs.{needs}
 use Rattle.receiver.proofs.answer.response_of.Statement.{statement}
 use Rattle.receiver.proofs.answer.response_of.Tie as tie
-use Rattle.receiver.proofs.answer.response_of.Reads as reads
-use Rattle.receiver.proofs.answer.response_of.Lts as lts
-use Rattle.receiver.proofs.answer.abort_for.Reads as abort-for-reads
-use Rattle.receiver.proofs.answer.ending_sends.Reads as ending-sends-reads
-use Rattle.receiver.proofs.answer.message_sends.Reads as message-sends-reads
 
--- src/answer.rt:183:27
 enum-told : tie.Need-enum-told
 enum-told c = search needs
 
--- src/answer.rt:184:30
 enum-told-2 : tie.Need-enum-told-2
 enum-told-2 c = search needs
 
--- src/answer.rt:185:29
 enum-told-3 : tie.Need-enum-told-3
 enum-told-3 c = search needs
 
--- src/answer.rt:186:23
 enum-known-a : tie.Need-enum-known-a
 enum-known-a c = search needs
 
--- src/answer.rt:187:28
 enum-known-a-2 : tie.Need-enum-known-a-2
 enum-known-a-2 c = search needs
 
--- src/answer.rt:187:34
 message-sends-requires : tie.Need-message-sends-requires
 message-sends-requires c κs = search needs
 
--- src/answer.rt:188:31
 enum-told-4 : tie.Need-enum-told-4
 enum-told-4 c = search needs
 
--- src/answer.rt:189:23
 enum-known-a-3 : tie.Need-enum-known-a-3
 enum-known-a-3 c = search needs
 
--- src/answer.rt:189:29
 ending-sends-requires : tie.Need-ending-sends-requires
 ending-sends-requires c κs = search needs
 
--- src/answer.rt:190:28
 enum-known-a-4 : tie.Need-enum-known-a-4
 enum-known-a-4 c = search needs
 
--- src/answer.rt:192:27
 abort-for-requires : tie.Need-abort-for-requires
 abort-for-requires c κs = search needs
 
--- src/answer.rt:194:31
 enum-told-5 : tie.Need-enum-told-5
 enum-told-5 c = search needs
 
--- src/answer.rt:179:1
 returns : tie.Need-returns
 returns c = search needs
 
--- src/answer.rt:179:1
 returns-2 : tie.Need-returns-2
 returns-2 c = search needs
 
--- src/answer.rt:179:1
 returns-3 : tie.Need-returns-3
 returns-3 c = search needs
 
--- src/answer.rt:179:1
 returns-4 : tie.Need-returns-4
 returns-4 c = rw (c .before .a .given .1)
 
--- src/answer.rt:179:1
 returns-5 : tie.Need-returns-5
 returns-5 c = rw (c .before .before .a2 .given .1) (c .message-sends .ensures)
 
--- src/answer.rt:179:1
 returns-6 : tie.Need-returns-6
 returns-6 c = search needs
 
--- src/answer.rt:179:1
 returns-7 : tie.Need-returns-7
 returns-7 c = rw (c .before .before .a3 .given .1) (c .ending-sends .ensures)
 
--- src/answer.rt:179:1
 returns-8 : tie.Need-returns-8
 returns-8 c = rw (c .before .before .a4 .given .1, c .abort-for .ensures)
 
--- src/answer.rt:179:1
 returns-9 : tie.Need-returns-9
 returns-9 c = search needs
 

@@ -1,27 +1,19 @@
 use borrow.Author.Needs.{needs}
 use Rattle.receiver.proofs.answer.response_of_end.Statement.{statement}
 use Rattle.receiver.proofs.answer.response_of_end.Tie as tie
-use Rattle.receiver.proofs.answer.response_of_end.Reads as reads
-use Rattle.receiver.proofs.answer.response_of_end.Lts as lts
-use Rattle.receiver.proofs.answer.ending_sends.Reads as ending-sends-reads
 
--- src/answer.rt:203:23
 enum-told : tie.Need-enum-told
 enum-told c = search needs
 
--- src/answer.rt:204:20
 enum-known-e : tie.Need-enum-known-e
 enum-known-e c = search needs
 
--- src/answer.rt:204:26
 ending-sends-requires : tie.Need-ending-sends-requires
 ending-sends-requires c κs = search needs
 
--- src/answer.rt:199:1
 returns : tie.Need-returns
 returns c = search needs
 
--- src/answer.rt:199:1
 returns-2 : tie.Need-returns-2
 returns-2 c = rw (c .before .before .e .given .1) (c .ending-sends .ensures)
 

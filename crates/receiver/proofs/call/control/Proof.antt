@@ -8,56 +8,37 @@ use Rattle.receiver.proofs.Cases.{by-case}
 use borrow.Author.Needs.{needs}
 use Rattle.receiver.proofs.call.control.Statement.{statement}
 use Rattle.receiver.proofs.call.control.Tie as tie
-use Rattle.receiver.proofs.call.control.Reads as reads
-use Rattle.receiver.proofs.call.control.Lts as lts
-use Rattle.receiver.proofs.announce.announce.Reads as announce-reads
-use Rattle.receiver.proofs.end.abort.Reads as abort-reads
-use Rattle.receiver.proofs.end.status.Reads as status-reads
-use Rattle.receiver.proofs.step.refuse.Reads as refuse-reads
-use Rattle.transport.proofs.control.key_of.Reads as key-of-reads
-use Rattle.transport.proofs.control.read_control.Reads as read-control-reads
 
--- src/call.rt:48:9
 key-of-requires : tie.Need-key-of-requires
 key-of-requires c κs = search needs
 
--- src/call.rt:49:11
 read-control-requires : tie.Need-read-control-requires
 read-control-requires c κs = search needs
 
--- src/call.rt:50:27
 enum-known-a : tie.Need-enum-known-a
 enum-known-a c = search needs
 
--- src/call.rt:50:33
 announce-requires : tie.Need-announce-requires
 announce-requires c κs = search needs
 
--- src/call.rt:51:31
 enum-known-st : tie.Need-enum-known-st
 enum-known-st c = search needs
 
--- src/call.rt:51:38
 status-requires : tie.Need-status-requires
 status-requires c κs = search needs
 
--- src/call.rt:52:24
 enum-known-pgn : tie.Need-enum-known-pgn
 enum-known-pgn c = search needs
 
--- src/call.rt:52:32
 abort-requires : tie.Need-abort-requires
 abort-requires c κs = search needs
 
--- src/call.rt:53:26
 enum-known-n : tie.Need-enum-known-n
 enum-known-n c = search needs
 
--- src/call.rt:53:32
 refuse-requires : tie.Need-refuse-requires
 refuse-requires c κs = search needs
 
--- src/call.rt:45:1
 returns : tie.Need-returns
 unfolding controlStep
 returns c =
@@ -65,7 +46,6 @@ returns c =
     by-case (λ (z : Control). onControl z (a .r) (keyOf (a .route) (now (a .bytes)))) _ _ _ _ (c .before .before .before .before .read-control .ensures) (c .before .before .a .given .1)
     (c .announce .ensures ∙ ap (λ (k : Key). announceStep (a .r) k (c .before .before .a .given .0 .0)) (c .before .before .before .before .before .key-of .ensures))
 
--- src/call.rt:45:1
 returns-2 : tie.Need-returns-2
 unfolding controlStep
 returns-2 c =
@@ -73,7 +53,6 @@ returns-2 c =
     by-case (λ (z : Control). onControl z (a .r) (keyOf (a .route) (now (a .bytes)))) _ _ _ _ (c .before .before .before .before .read-control .ensures) (c .before .before .st .given .1)
     (c .status .ensures ∙ ap (λ (k : Key). statusStep (a .r) k (c .before .before .st .given .0 .0)) (c .before .before .before .before .before .key-of .ensures))
 
--- src/call.rt:45:1
 returns-3 : tie.Need-returns-3
 unfolding controlStep
 returns-3 c =
@@ -81,7 +60,6 @@ returns-3 c =
     by-case (λ (z : Control). onControl z (a .r) (keyOf (a .route) (now (a .bytes)))) _ _ _ _ (c .before .before .before .before .read-control .ensures) (c .before .before .pgn .given .1)
     (c .abort .ensures ∙ ap (λ (k : Key). abortStep (a .r) k (c .before .before .pgn .given .0 .0)) (c .before .before .before .before .before .key-of .ensures))
 
--- src/call.rt:45:1
 returns-4 : tie.Need-returns-4
 unfolding controlStep
 returns-4 c =

@@ -8,49 +8,34 @@ use Rattle.receiver.proofs.Cases.{by-case, outcome, room-of}
 use borrow.Author.Needs.{needs}
 use Rattle.receiver.proofs.call.data_frame.Statement.{statement}
 use Rattle.receiver.proofs.call.data_frame.Tie as tie
-use Rattle.receiver.proofs.call.data_frame.Reads as reads
-use Rattle.receiver.proofs.call.data_frame.Lts as lts
-use Rattle.receiver.proofs.segment.segment.Reads as segment-reads
-use Rattle.receiver.proofs.step.refuse.Reads as refuse-reads
-use Rattle.transport.proofs.control.key_of.Reads as key-of-reads
-use Rattle.transport.proofs.segment.read_segment.Reads as read-segment-reads
 
--- src/call.rt:62:9
 key-of-requires : tie.Need-key-of-requires
 key-of-requires c κs = search needs
 
--- src/call.rt:63:11
 read-segment-requires : tie.Need-read-segment-requires
 read-segment-requires c κs = search needs
 
--- src/call.rt:64:28
 enum-known-sg : tie.Need-enum-known-sg
 enum-known-sg c = search needs
 
--- src/call.rt:64:35
 segment-requires : tie.Need-segment-requires
 segment-requires c κs = (c .before .before .before .before .before .before .before .before .pre .0, room-of (now (c .before .before .before .before .before .before .before .before .args .bytes)) _ (sym (c .before .before .before .before .read-segment .ensures) ∙ c .before .before .sg .given .1), c .before .before .before .before .before .before .before .before .pre .1)
 
--- src/call.rt:65:28
 enum-known-n : tie.Need-enum-known-n
 enum-known-n c = search needs
 
--- src/call.rt:65:34
 refuse-requires : tie.Need-refuse-requires
 refuse-requires c κs = search needs
 
--- src/call.rt:58:1
 same-length : tie.Need-same-length
 same-length c = search needs
 
--- src/call.rt:58:1
 returns : tie.Need-returns
 returns c =
     let a = c .before .before .before .before .before .before .before .before .before .before .before .args in
     by-case (λ (z : DataFrame). onData z (a .r) (keyOf (a .route) (now (a .bytes))) (now (a .bytes)) (now (a .store))) _ _ _ _ (c .before .before .before .before .before .before .before .read-segment .ensures) (c .before .before .before .before .before .sg .given .1)
     (c .before .before .segment .ensures ∙ ap (λ (k : Key). segmentStep (a .r) k (c .before .before .before .before .before .sg .given .0 .0) (now (a .bytes)) (now (a .store))) (c .before .before .before .before .before .before .before .before .key-of .ensures))
 
--- src/call.rt:58:1
 returns-2 : tie.Need-returns-2
 returns-2 c =
     let a = c .before .before .before .before .before .before .before .before .args in

@@ -5,32 +5,22 @@ use Rattle.receiver.proofs.Cases.{good-step, bad-step}
 use borrow.Author.Needs.{needs}
 use Rattle.receiver.proofs.call.groups.Statement.{statement}
 use Rattle.receiver.proofs.call.groups.Tie as tie
-use Rattle.receiver.proofs.call.groups.Reads as reads
-use Rattle.receiver.proofs.call.groups.Lts as lts
-use Rattle.multi_pg.proofs.read.judge.Reads as judge-reads
-use Rattle.receiver.proofs.step.refuse.Reads as refuse-reads
 
--- src/call.rt:35:11
 judge-requires : tie.Need-judge-requires
 judge-requires c κs = search needs
 
--- src/call.rt:38:21
 enum-told : tie.Need-enum-told
 enum-told c = search needs
 
--- src/call.rt:40:28
 enum-known-n : tie.Need-enum-known-n
 enum-known-n c = search needs
 
--- src/call.rt:40:34
 refuse-requires : tie.Need-refuse-requires
 refuse-requires c κs = search needs
 
--- src/call.rt:32:1
 returns : tie.Need-returns
 returns c = good-step (reading (now (c .before .before .before .before .args .bytes))) _ (sym (c .before .before .judge .ensures) ∙ c .enum-told .given .1)
 
--- src/call.rt:32:1
 returns-2 : tie.Need-returns-2
 returns-2 c = c .refuse .ensures ∙ bad-step (reading (now (c .before .before .before .before .before .before .args .bytes))) _ _ (sym (c .before .before .before .before .judge .ensures) ∙ c .before .before .n .given .1)
 

@@ -1,4 +1,4 @@
-use mathlib.Core.Path.{_≡_, refl, sym, ap, _∙_}
+use mathlib.Core.Path.{refl, sym, ap, _∙_}
 use Rattle.laws.specs.Choice.{then, else}
 use Rattle.receiver.specs.declared.answer.End.{End}
 use Rattle.receiver.specs.declared.answer.SlotEnd.{SlotEnd}
@@ -6,38 +6,29 @@ use Rattle.receiver.specs.Calls.{endOf}
 use borrow.Author.Needs.{needs}
 use Rattle.receiver.proofs.clock.end_of.Statement.{statement}
 use Rattle.receiver.proofs.clock.end_of.Tie as tie
-use Rattle.receiver.proofs.clock.end_of.Reads as reads
-use Rattle.receiver.proofs.clock.end_of.Lts as lts
-use Rattle.session.proofs.clock.is_idle.Reads as is-idle-reads
 
 abbrev ending : End → SlotEnd
 ending e = record { end = e }
 
--- src/clock.rt:54:43
 enum-told : tie.Need-enum-told
 enum-told c = search needs
 
--- src/clock.rt:55:25
 enum-known-state : tie.Need-enum-known-state
 enum-known-state c = search needs
 
--- src/clock.rt:58:16
 is-idle-requires : tie.Need-is-idle-requires
 is-idle-requires c κs = search needs
 
--- src/clock.rt:49:1
 returns : tie.Need-returns
 returns c =
     let a = c .before .before .args in
     ap ending (sym (ap (endOf (a .limit) (a .t)) (c .enum-told .given .1)))
 
--- src/clock.rt:49:1
 returns-2 : tie.Need-returns-2
 returns-2 c =
     let a = c .before .before .before .before .before .before .args in
     ap ending (then _ _ _ _ (sym (c .before .is-idle .ensures) ∙ c .if1 .taken) refl ∙ sym (ap (endOf (a .limit) (a .t)) (c .before .before .before .before .state .given .1)))
 
--- src/clock.rt:49:1
 returns-3 : tie.Need-returns-3
 returns-3 c =
     let a = c .before .before .before .before .before .before .args in

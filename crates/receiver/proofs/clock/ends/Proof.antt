@@ -1,7 +1,7 @@
-use Prim.Native.Nat.{ℕ, _+_, _-_, _≤_}
-use mathlib.Core.Path.{_≡_, refl, sym, ap, _∙_}
+use Prim.Native.Nat.{_-_, _≤_}
+use mathlib.Core.Path.{_≡_, refl, ap, _∙_}
 use mathlib.Core.List.{List}
-use lib.ListN.{length, getD, set, replicate}
+use lib.ListN.{length, set, replicate}
 use native.Mathlib.Omega.{arith}
 use Rattle.laws.specs.Maps.{filled, filled-turn, filled-all}
 use Rattle.receiver.specs.declared.answer.SlotEnd.{SlotEnd}
@@ -9,9 +9,6 @@ use Rattle.receiver.specs.Calls.{slotEnd, stays}
 use borrow.Author.Needs.{needs}
 use Rattle.receiver.proofs.clock.ends.Statement.{statement}
 use Rattle.receiver.proofs.clock.ends.Tie as tie
-use Rattle.receiver.proofs.clock.ends.Reads as reads
-use Rattle.receiver.proofs.clock.ends.Lts as lts
-use Rattle.receiver.proofs.clock.end_of.Reads as end-of-reads
 
 abbrev Inv-loop : tie.InvT-loop
 Inv-loop limit t slots out₀ i₀ out i = (length slots ≡ 8) × (length out₀ ≡ 8) × (i ≤ 8) × (out ≡ filled (slotEnd limit t) slots out₀ i)
@@ -19,39 +16,30 @@ Inv-loop limit t slots out₀ i₀ out i = (length slots ≡ 8) × (length out�
 abbrev μ-loop : tie.MeasureT-loop
 μ-loop limit t slots out₀ i₀ out i = 8 - i
 
--- src/clock.rt:79:5
 loop-holds : tie.Need-loop-holds Inv-loop μ-loop
 loop-holds c = (search needs, refl, search needs, refl)
 
--- src/clock.rt:80:25
 mul-end-of : tie.Need-mul-end-of Inv-loop μ-loop
 mul-end-of c = search needs
 
--- src/clock.rt:80:25
 array-copy-out-end-of : tie.Need-array-copy-out-end-of Inv-loop μ-loop
 array-copy-out-end-of c = search needs
 
--- src/clock.rt:80:18
 end-of-requires : tie.Need-end-of-requires Inv-loop μ-loop
 end-of-requires c κs = search needs
 
--- src/clock.rt:80:9
 mul-out : tie.Need-mul-out Inv-loop μ-loop
 mul-out c = search needs
 
--- src/clock.rt:80:9
 array-set-from-out : tie.Need-array-set-from-out Inv-loop μ-loop
 array-set-from-out c = search needs
 
--- src/clock.rt:81:13
 add-i : tie.Need-add-i Inv-loop μ-loop
 add-i c = search needs
 
--- src/clock.rt:79:5
 loop-less : tie.Need-loop-less Inv-loop μ-loop
 loop-less c = search needs
 
--- src/clock.rt:79:5
 loop-again : tie.Need-loop-again Inv-loop μ-loop
 loop-again c =
     let a = c .before .before .before .before .args in
@@ -65,7 +53,6 @@ loop-again c =
           ∙ filled-turn f (a .t1) _ (at .i) _ stays (omega arith) (omega arith),
     )
 
--- src/clock.rt:74:1
 returns : tie.Need-returns Inv-loop μ-loop
 returns c =
     let a = c .before .before .args in

@@ -1,4 +1,4 @@
-use mathlib.Core.Path.{_≡_, refl, sym, ap, _∙_}
+use mathlib.Core.Path.{refl, sym, ap, _∙_}
 use Rattle.laws.specs.Choice.{then, else}
 use Rattle.slots.specs.declared.Slot.{Slot}
 use Rattle.slots.specs.declared.SlotState.{SlotState}
@@ -6,39 +6,30 @@ use Rattle.receiver.specs.Calls.{expiredState}
 use borrow.Author.Needs.{needs}
 use Rattle.receiver.proofs.clock.expire.Statement.{statement}
 use Rattle.receiver.proofs.clock.expire.Tie as tie
-use Rattle.receiver.proofs.clock.expire.Reads as reads
-use Rattle.receiver.proofs.clock.expire.Lts as lts
-use Rattle.session.proofs.clock.is_idle.Reads as is-idle-reads
 
 abbrev slot : SlotState → Slot
 slot st = record { state = st }
 
--- src/clock.rt:22:28
 enum-told : tie.Need-enum-told
 enum-told c = search needs
 
--- src/clock.rt:23:25
 enum-known-state : tie.Need-enum-known-state
 enum-known-state c = search needs
 
--- src/clock.rt:24:16
 is-idle-requires : tie.Need-is-idle-requires
 is-idle-requires c κs = search needs
 
--- src/clock.rt:17:1
 returns : tie.Need-returns
 returns c =
     let a = c .before .before .args in
     let g = c .enum-told .given .1 in
     ap slot (g ∙ sym (ap (expiredState (a .limit) (a .t)) g))
 
--- src/clock.rt:17:1
 returns-2 : tie.Need-returns-2
 returns-2 c =
     let a = c .before .before .before .before .before .args in
     ap slot (then _ _ _ _ (sym (c .before .is-idle .ensures) ∙ c .if1 .taken) refl ∙ sym (ap (expiredState (a .limit) (a .t)) (c .before .before .before .state .given .1)))
 
--- src/clock.rt:17:1
 returns-3 : tie.Need-returns-3
 returns-3 c =
     let a = c .before .before .before .before .before .args in

@@ -1,5 +1,5 @@
-use Prim.Native.Nat.{ℕ, _+_, _-_, _≤_}
-use mathlib.Core.Path.{_≡_, refl, sym, ap, _∙_}
+use Prim.Native.Nat.{ℕ, _-_, _≤_}
+use mathlib.Core.Path.{_≡_, refl, ap, _∙_}
 use mathlib.Core.List.{List}
 use lib.ListN.{length, getD, set}
 use native.Mathlib.Omega.{arith}
@@ -9,9 +9,6 @@ use Rattle.receiver.specs.Calls.{expired}
 use borrow.Author.Needs.{needs}
 use Rattle.receiver.proofs.clock.expire_all.Statement.{statement}
 use Rattle.receiver.proofs.clock.expire_all.Tie as tie
-use Rattle.receiver.proofs.clock.expire_all.Reads as reads
-use Rattle.receiver.proofs.clock.expire_all.Lts as lts
-use Rattle.receiver.proofs.clock.expire.Reads as expire-reads
 
 abbrev Inv-loop : tie.InvT-loop
 Inv-loop limit t next₀ i₀ next i = (length next₀ ≡ 8) × (i ≤ 8) × (next ≡ mapped (expired limit t) next₀ i)
@@ -19,39 +16,30 @@ Inv-loop limit t next₀ i₀ next i = (length next₀ ≡ 8) × (i ≤ 8) × (n
 abbrev μ-loop : tie.MeasureT-loop
 μ-loop limit t next₀ i₀ next i = 8 - i
 
--- src/clock.rt:40:5
 loop-holds : tie.Need-loop-holds Inv-loop μ-loop
 loop-holds c = (search needs, search needs, refl)
 
--- src/clock.rt:41:17
 mul-s : tie.Need-mul-s Inv-loop μ-loop
 mul-s c = search needs
 
--- src/clock.rt:41:17
 array-copy-out-s : tie.Need-array-copy-out-s Inv-loop μ-loop
 array-copy-out-s c = search needs
 
--- src/clock.rt:42:19
 expire-requires : tie.Need-expire-requires Inv-loop μ-loop
 expire-requires c κs = search needs
 
--- src/clock.rt:42:9
 mul-next : tie.Need-mul-next Inv-loop μ-loop
 mul-next c = search needs
 
--- src/clock.rt:42:9
 array-set-from-next : tie.Need-array-set-from-next Inv-loop μ-loop
 array-set-from-next c = search needs
 
--- src/clock.rt:43:13
 add-i : tie.Need-add-i Inv-loop μ-loop
 add-i c = search needs
 
--- src/clock.rt:40:5
 loop-less : tie.Need-loop-less Inv-loop μ-loop
 loop-less c = search needs
 
--- src/clock.rt:40:5
 loop-again : tie.Need-loop-again Inv-loop μ-loop
 loop-again c =
     let a = c .before .before .before .before .args in
@@ -64,7 +52,6 @@ loop-again c =
           ∙ mapped-turn f (a .slots) i _ (c .expire .result) (omega arith) (c .expire .ensures ∙ ap (λ (l : List Slot). f (getD l i _)) (at .inv .2)),
     )
 
--- src/clock.rt:35:1
 returns : tie.Need-returns Inv-loop μ-loop
 returns c =
     let a = c .before .before .args in

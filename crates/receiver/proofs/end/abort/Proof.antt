@@ -4,65 +4,47 @@ use Rattle.receiver.proofs.Cases.{at-found, none-found, at-open, at-fre
 use borrow.Author.Needs.{needs}
 use Rattle.receiver.proofs.end.abort.Statement.{statement}
 use Rattle.receiver.proofs.end.abort.Tie as tie
-use Rattle.receiver.proofs.end.abort.Reads as reads
-use Rattle.receiver.proofs.end.abort.Lts as lts
-use Rattle.receiver.proofs.end.abort_open.Reads as abort-open-reads
-use Rattle.receiver.proofs.step.refuse.Reads as refuse-reads
-use Rattle.slots.proofs.search.find_key.Reads as find-key-reads
 
--- src/end.rt:87:11
 find-key-requires : tie.Need-find-key-requires
 find-key-requires c κs = search needs
 
--- src/end.rt:88:37
 enum-told : tie.Need-enum-told
 enum-told c = search needs
 
--- src/end.rt:88:27
 refuse-requires : tie.Need-refuse-requires
 refuse-requires c κs = search needs
 
--- src/end.rt:89:19
 enum-known-i : tie.Need-enum-known-i
 enum-known-i c = search needs
 
--- src/end.rt:90:24
 mul-slot : tie.Need-mul-slot
 mul-slot c = omega (arith, within _ _ _ (c .before .before .before .find-key .ensures .1) (c .before .i .given .1))
 
--- src/end.rt:90:24
 array-copy-out-slot : tie.Need-array-copy-out-slot
 array-copy-out-slot c = within _ _ _ (c .before .before .before .find-key .ensures .1) (c .before .i .given .1)
 
--- src/end.rt:93:46
 enum-told-2 : tie.Need-enum-told-2
 enum-told-2 c = search needs
 
--- src/end.rt:93:36
 refuse-requires-2 : tie.Need-refuse-requires-2
 refuse-requires-2 c κs = search needs
 
--- src/end.rt:94:33
 enum-known-state : tie.Need-enum-known-state
 enum-known-state c = search needs
 
--- src/end.rt:94:39
 abort-open-requires : tie.Need-abort-open-requires
 abort-open-requires c κs = within _ _ _ (c .before .before .before .before .before .before .before .find-key .ensures .1) (c .before .before .before .before .before .i .given .1)
 
--- src/end.rt:83:1
 returns : tie.Need-returns
 unfolding abortStep
 returns c = none-found _ _ _ _ _ (c .before .before .before .find-key .ensures .0) (c .before .enum-told .given .1) (c .refuse .ensures)
 
--- src/end.rt:83:1
 returns-2 : tie.Need-returns-2
 unfolding abortStep
 returns-2 c =
     at-found _ _ _ _ _ _ (c .before .before .before .before .before .before .before .find-key .ensures .0) (c .before .before .before .before .before .i .given .1)
     (at-free _ _ _ _ (c .before .enum-told2 .given .1) (c .refuse2 .ensures))
 
--- src/end.rt:83:1
 returns-3 : tie.Need-returns-3
 unfolding abortStep
 returns-3 c =

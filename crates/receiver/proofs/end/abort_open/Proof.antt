@@ -6,30 +6,20 @@ use Rattle.receiver.proofs.Cases.{stepped}
 use borrow.Author.Needs.{needs}
 use Rattle.receiver.proofs.end.abort_open.Statement.{statement}
 use Rattle.receiver.proofs.end.abort_open.Tie as tie
-use Rattle.receiver.proofs.end.abort_open.Reads as reads
-use Rattle.receiver.proofs.end.abort_open.Lts as lts
-use Rattle.receiver.proofs.step.refuse.Reads as refuse-reads
-use Rattle.receiver.proofs.step.with_slot.Reads as with-slot-reads
-use Rattle.session.proofs.end.abort_matches.Reads as abort-matches-reads
 
--- src/end.rt:53:9
 abort-matches-requires : tie.Need-abort-matches-requires
 abort-matches-requires c κs = search needs
 
--- src/end.rt:54:9
 refuse-requires : tie.Need-refuse-requires
 refuse-requires c κs = search needs
 
--- src/end.rt:54:9
 returns : tie.Need-returns
 unfolding abortOpen
 returns c = else _ _ _ _ (sym (c .before .before .abort-matches .ensures) ∙ not-true _ (c .before .if1 .taken)) (c .refuse .ensures)
 
--- src/end.rt:56:9
 with-slot-requires : tie.Need-with-slot-requires
 with-slot-requires c κs = search needs
 
--- src/end.rt:49:1
 returns-2 : tie.Need-returns-2
 unfolding abortOpen
 returns-2 c = then _ _ _ _ (sym (c .before .before .before .abort-matches .ensures) ∙ not-false _ (c .before .before .if1 .left)) (stepped _ _ _ _ (c .before .with-slot .ensures) refl)

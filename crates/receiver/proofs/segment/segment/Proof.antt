@@ -8,69 +8,50 @@ use Rattle.receiver.proofs.Cases.{at-found, none-found, at-open, at-fre
 use borrow.Author.Needs.{needs}
 use Rattle.receiver.proofs.segment.segment.Statement.{statement}
 use Rattle.receiver.proofs.segment.segment.Tie as tie
-use Rattle.receiver.proofs.segment.segment.Reads as reads
-use Rattle.receiver.proofs.segment.segment.Lts as lts
-use Rattle.receiver.proofs.segment.segment_open.Reads as segment-open-reads
-use Rattle.receiver.proofs.step.refuse.Reads as refuse-reads
-use Rattle.slots.proofs.search.find_key.Reads as find-key-reads
 
--- src/segment.rt:87:9
 refuse-requires : tie.Need-refuse-requires
 refuse-requires c κs = search needs
 
--- src/segment.rt:87:9
 returns : tie.Need-returns
 unfolding segmentStep
 returns c = then _ _ _ _ (ap not (ne-eqb _ _ (c .before .if1 .taken))) (outcome _ _ _ _ (c .refuse .ensures) refl)
 
--- src/segment.rt:90:11
 find-key-requires : tie.Need-find-key-requires
 find-key-requires c κs = search needs
 
--- src/segment.rt:91:37
 enum-told : tie.Need-enum-told
 enum-told c = search needs
 
--- src/segment.rt:91:27
 refuse-requires-2 : tie.Need-refuse-requires-2
 refuse-requires-2 c κs = search needs
 
--- src/segment.rt:92:19
 enum-known-i : tie.Need-enum-known-i
 enum-known-i c = search needs
 
--- src/segment.rt:93:24
 mul-slot : tie.Need-mul-slot
 mul-slot c = omega (arith, within _ _ _ (c .before .before .before .find-key .ensures .1) (c .before .i .given .1))
 
--- src/segment.rt:93:24
 array-copy-out-slot : tie.Need-array-copy-out-slot
 array-copy-out-slot c = within _ _ _ (c .before .before .before .find-key .ensures .1) (c .before .i .given .1)
 
--- src/segment.rt:96:46
 enum-told-2 : tie.Need-enum-told-2
 enum-told-2 c = search needs
 
--- src/segment.rt:96:36
 refuse-requires-3 : tie.Need-refuse-requires-3
 refuse-requires-3 c κs = search needs
 
--- src/segment.rt:97:33
 enum-known-state : tie.Need-enum-known-state
 enum-known-state c = search needs
 
--- src/segment.rt:97:39
 segment-open-requires : tie.Need-segment-open-requires
 segment-open-requires c κs = (within _ _ _ (c .before .before .before .before .before .before .before .before .find-key .ensures .1) (c .before .before .before .before .before .before .i .given .1), found-announced (c .before .before .before .before .before .before .before .before .before .before .before .before .before .before .args .r) _ _ (c .before .before .before .before .before .before .before .before .before .before .before .before .before .before .pre .0) (c .before .before .state .given .1), c .before .before .before .before .before .before .before .before .before .before .before .before .before .before .pre .1, c .before .before .before .before .before .before .before .before .before .before .before .before .before .before .pre .2)
 
--- src/segment.rt:82:1
 returns-2 : tie.Need-returns-2
 unfolding segmentStep
 returns-2 c =
     else _ _ _ _ (ap not (eq-eqb _ _ (c .before .before .before .before .before .if1 .left)))
     (none-found _ _ _ _ _ (c .before .before .before .find-key .ensures .0) (c .before .enum-told .given .1) (outcome _ _ _ _ (c .refuse2 .ensures) refl))
 
--- src/segment.rt:82:1
 returns-3 : tie.Need-returns-3
 unfolding segmentStep
 returns-3 c =
@@ -78,11 +59,9 @@ returns-3 c =
     (at-found _ _ _ _ _ _ (c .before .before .before .before .before .before .before .find-key .ensures .0) (c .before .before .before .before .before .i .given .1)
     (at-free _ _ _ _ (c .before .enum-told2 .given .1) (outcome _ _ _ _ (c .refuse3 .ensures) refl)))
 
--- src/segment.rt:82:1
 same-length : tie.Need-same-length
 same-length c = search needs
 
--- src/segment.rt:82:1
 returns-4 : tie.Need-returns-4
 unfolding segmentStep
 returns-4 c =

@@ -1,4 +1,4 @@
-use Prim.Native.Nat.{ℕ, _+_, _-_, _*_}
+use Prim.Native.Nat.{_+_, _-_, _*_}
 use mathlib.Core.Path.{refl, sym, ap, _∙_}
 use lib.Seq.{paste}
 use denote.Ref.{now}
@@ -11,60 +11,40 @@ use Rattle.receiver.proofs.Cases.{by-case, outcome}
 use borrow.Author.Needs.{needs}
 use Rattle.receiver.proofs.segment.segment_open.Statement.{statement}
 use Rattle.receiver.proofs.segment.segment_open.Tie as tie
-use Rattle.receiver.proofs.segment.segment_open.Reads as reads
-use Rattle.receiver.proofs.segment.segment_open.Lts as lts
-use Rattle.receiver.proofs.segment.take.Reads as take-reads
-use Rattle.receiver.proofs.step.end_session.Reads as end-session-reads
-use Rattle.receiver.proofs.step.refuse.Reads as refuse-reads
-use Rattle.session.proofs.segment.due.Reads as due-reads
-use Rattle.session.proofs.segment.judge_segment.Reads as judge-segment-reads
-use Rattle.slots.proofs.store.store_segment.Reads as store-segment-reads
 
--- src/segment.rt:69:11
 judge-segment-requires : tie.Need-judge-segment-requires
 judge-segment-requires c κs = search needs
 
--- src/segment.rt:70:25
 enum-known-x : tie.Need-enum-known-x
 enum-known-x c = search needs
 
--- src/segment.rt:70:31
 refuse-requires : tie.Need-refuse-requires
 refuse-requires c κs = search needs
 
--- src/segment.rt:71:22
 enum-known-x-2 : tie.Need-enum-known-x-2
 enum-known-x-2 c = search needs
 
--- src/segment.rt:71:28
 end-session-requires : tie.Need-end-session-requires
 end-session-requires c κs = search needs
 
--- src/segment.rt:73:25
 enum-told : tie.Need-enum-told
 enum-told c = search needs
 
--- src/segment.rt:73:25
 due-requires : tie.Need-due-requires
 due-requires c κs = search needs
 
--- src/segment.rt:73:25
 cast-count : tie.Need-cast-count
 cast-count c = search needs
 
--- src/segment.rt:74:28
 cast-at : tie.Need-cast-at
 cast-at c = search needs
 
--- src/segment.rt:74:28
 sub-at : tie.Need-sub-at
 sub-at c = omega (arith, takes-in-turn (c .before .before .before .before .before .before .before .before .args .s) (c .before .before .before .before .before .before .before .before .args .sg .number .0) (c .before .before .before .before .before .before .before .before .args .sg .room) (sym (c .before .before .before .before .judge-segment .ensures) ∙ c .before .before .enum-told .given .1))
 
--- src/segment.rt:74:22
 mul-at : tie.Need-mul-at
 mul-at c = search needs
 
--- src/segment.rt:75:13
 store-segment-requires : tie.Need-store-segment-requires
 store-segment-requires c κs =
     let a = c .before .before .before .before .before .before .before .before .before .args in
@@ -72,14 +52,12 @@ store-segment-requires c κs =
     let g = announced-agreed (a .s) (c .before .before .before .before .before .before .before .before .before .pre .1) in
     omega (arith, c .before .before .before .before .before .before .before .before .before .pre, c .before .before .due .ensures, g .fits, takes-in-turn (a .s) (a .sg .number .0) (a .sg .room) e, taken-inside (a .s) (a .sg .number .0) (a .sg .room) g e)
 
--- src/segment.rt:76:13
 take-requires : tie.Need-take-requires
 take-requires c κs =
     let a = c .before .before .before .before .before .before .before .before .before .before .before .before .args in
     let e = sym (c .before .before .before .before .before .before .before .before .judge-segment .ensures) ∙ c .before .before .before .before .before .before .enum-told .given .1 in
     omega (arith, c .before .before .before .before .before .before .before .before .before .before .before .before .pre, announced-agreed (a .s) (c .before .before .before .before .before .before .before .before .before .before .before .before .pre .1), takes-in-turn (a .s) (a .sg .number .0) (a .sg .room) e)
 
--- src/segment.rt:57:1
 returns : tie.Need-returns
 unfolding segmentOpen
 returns c =
@@ -87,7 +65,6 @@ returns c =
     by-case (λ (z : Judged). onJudged z (a .r) (a .i) (a .s) (a .sg .number .0) (now (a .bytes)) (now (a .store))) _ _ _ _ (c .before .before .before .before .judge-segment .ensures) (c .before .before .x .given .1)
     (outcome _ _ _ _ (c .refuse .ensures) refl)
 
--- src/segment.rt:57:1
 returns-2 : tie.Need-returns-2
 unfolding segmentOpen
 returns-2 c =
@@ -95,11 +72,9 @@ returns-2 c =
     by-case (λ (z : Judged). onJudged z (a .r) (a .i) (a .s) (a .sg .number .0) (now (a .bytes)) (now (a .store))) _ _ _ _ (c .before .before .before .before .judge-segment .ensures) (c .before .before .x2 .given .1)
     (outcome _ _ _ _ (c .end-session .ensures) refl)
 
--- src/segment.rt:57:1
 same-length : tie.Need-same-length
 same-length c = search needs
 
--- src/segment.rt:57:1
 returns-3 : tie.Need-returns-3
 unfolding segmentOpen
 returns-3 c =

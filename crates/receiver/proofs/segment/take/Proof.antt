@@ -8,37 +8,25 @@ use Rattle.receiver.proofs.Cases.{stepped}
 use borrow.Author.Needs.{needs}
 use Rattle.receiver.proofs.segment.take.Statement.{statement}
 use Rattle.receiver.proofs.segment.take.Tie as tie
-use Rattle.receiver.proofs.segment.take.Reads as reads
-use Rattle.receiver.proofs.segment.take.Lts as lts
-use Rattle.receiver.proofs.step.with_slot.Reads as with-slot-reads
-use Rattle.session.proofs.segment.advance.Reads as advance-reads
-use Rattle.session.proofs.segment.is_cts_due.Reads as is-cts-due-reads
-use Rattle.session.proofs.segment.next_cts.Reads as next-cts-reads
 
--- src/segment.rt:37:9
 advance-requires : tie.Need-advance-requires
 advance-requires c κs = search needs
 
--- src/segment.rt:38:9
 with-slot-requires : tie.Need-with-slot-requires
 with-slot-requires c κs = search needs
 
--- src/segment.rt:39:8
 is-cts-due-requires : tie.Need-is-cts-due-requires
 is-cts-due-requires c κs = search needs
 
--- src/segment.rt:40:13
 next-cts-requires : tie.Need-next-cts-requires
 next-cts-requires c κs = search needs
 
--- src/segment.rt:41:9
 returns : tie.Need-returns
 returns c =
     let a = c .before .before .before .before .before .args in
     stepped _ _ _ _ (c .before .before .before .with-slot .ensures ∙ ap (λ (s : Session). withSlot (a .r) (a .i) (Open s)) (c .before .before .before .before .advance .ensures))
     (then _ _ _ _ (sym (c .before .before .is-cts-due .ensures) ∙ c .before .if1 .taken) (ap Grant (c .next-cts .ensures)))
 
--- src/segment.rt:33:1
 returns-2 : tie.Need-returns-2
 returns-2 c =
     let a = c .before .before .before .before .before .args in

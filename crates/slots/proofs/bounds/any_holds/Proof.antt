@@ -1,5 +1,5 @@
-use Prim.Native.Nat.{ℕ, _+_, _-_, _<_, _≤_}
-use mathlib.Core.Path.{_≡_, refl, sym, ap, _∙_}
+use Prim.Native.Nat.{_-_, _≤_}
+use mathlib.Core.Path.{_≡_, refl, sym, _∙_}
 use lib.ListN.{length, drop}
 use native.Mathlib.Omega.{arith}
 use Rattle.laws.specs.Choice.{or-next, or-stop}
@@ -8,9 +8,6 @@ use Rattle.slots.specs.Bounds.{anyHolds}
 use borrow.Author.Needs.{needs}
 use Rattle.slots.proofs.bounds.any_holds.Statement.{statement}
 use Rattle.slots.proofs.bounds.any_holds.Tie as tie
-use Rattle.slots.proofs.bounds.any_holds.Reads as reads
-use Rattle.slots.proofs.bounds.any_holds.Lts as lts
-use Rattle.slots.proofs.search.holds_key.Reads as holds-key-reads
 
 abbrev Inv-loop : tie.InvT-loop
 Inv-loop from k slots j₀ j = (length slots ≡ 8) × (j ≤ 8) × (anyHolds k (drop j slots) ≡ anyHolds k (drop from slots))
@@ -18,45 +15,36 @@ Inv-loop from k slots j₀ j = (length slots ≡ 8) × (j ≤ 8) × (anyHolds k 
 abbrev μ-loop : tie.MeasureT-loop
 μ-loop from k slots j₀ j = 8 - j
 
--- src/bounds.rt:106:5
 loop-holds : tie.Need-loop-holds Inv-loop μ-loop
 loop-holds c = search needs
 
--- src/bounds.rt:107:22
 mul-holds-key : tie.Need-mul-holds-key Inv-loop μ-loop
 mul-holds-key c = search needs
 
--- src/bounds.rt:107:22
 array-copy-out-holds-key : tie.Need-array-copy-out-holds-key Inv-loop μ-loop
 array-copy-out-holds-key c = search needs
 
--- src/bounds.rt:107:12
 holds-key-requires : tie.Need-holds-key-requires Inv-loop μ-loop
 holds-key-requires c κs = search needs
 
--- src/bounds.rt:108:13
 returns : tie.Need-returns Inv-loop μ-loop
 returns c =
     let at = c .before .before .before .before in
     let f = anyHolds (at .before .args .k) in
     or-stop _ _ (sym (c .before .holds-key .ensures) ∙ c .if1 .taken) ∙ sym (turn f (at .before .args .t1) (at .loop .j) _ (search needs)) ∙ at .loop .inv .2
 
--- src/bounds.rt:110:13
 add-j : tie.Need-add-j Inv-loop μ-loop
 add-j c = search needs
 
--- src/bounds.rt:106:5
 loop-less : tie.Need-loop-less Inv-loop μ-loop
 loop-less c = search needs
 
--- src/bounds.rt:106:5
 loop-again : tie.Need-loop-again Inv-loop μ-loop
 loop-again c =
     let at = c .before .before .before .before in
     let f = anyHolds (at .before .args .k) in
     (search needs, search needs, or-next _ _ _ (sym (c .before .holds-key .ensures) ∙ c .if1 .left) refl ∙ sym (turn f (at .before .args .t1) (at .loop .j) _ (search needs)) ∙ at .loop .inv .2)
 
--- src/bounds.rt:101:1
 returns-2 : tie.Need-returns-2 Inv-loop μ-loop
 returns-2 c =
     let at = c .before in

@@ -1,27 +1,19 @@
 use borrow.Author.Needs.{needs}
 use Rattle.slots.proofs.bounds.slot_ok.Statement.{statement}
 use Rattle.slots.proofs.bounds.slot_ok.Tie as tie
-use Rattle.slots.proofs.bounds.slot_ok.Reads as reads
-use Rattle.slots.proofs.bounds.slot_ok.Lts as lts
-use Rattle.slots.proofs.bounds.session_ok.Reads as session-ok-reads
 
--- src/bounds.rt:98:28
 enum-told : tie.Need-enum-told
 enum-told c = search needs
 
--- src/bounds.rt:99:25
 enum-known-state : tie.Need-enum-known-state
 enum-known-state c = search needs
 
--- src/bounds.rt:99:31
 session-ok-requires : tie.Need-session-ok-requires
 session-ok-requires c κs = search needs
 
--- src/bounds.rt:93:1
 returns : tie.Need-returns
 returns c = search needs
 
--- src/bounds.rt:93:1
 returns-2 : tie.Need-returns-2
 returns-2 c = rw (c .before .before .state .given .1) (c .session-ok .ensures)
 

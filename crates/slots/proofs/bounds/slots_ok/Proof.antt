@@ -1,4 +1,4 @@
-use Prim.Native.Nat.{ℕ, _+_, _-_, _<_, _≤_}
+use Prim.Native.Nat.{_-_, _≤_}
 use mathlib.Core.Path.{_≡_, refl, sym, ap, _∙_}
 use mathlib.Core.Bool.{not}
 use lib.ListN.{length, drop}
@@ -10,10 +10,6 @@ use Rattle.slots.specs.Bounds.{slotsOk}
 use borrow.Author.Needs.{needs}
 use Rattle.slots.proofs.bounds.slots_ok.Statement.{statement}
 use Rattle.slots.proofs.bounds.slots_ok.Tie as tie
-use Rattle.slots.proofs.bounds.slots_ok.Reads as reads
-use Rattle.slots.proofs.bounds.slots_ok.Lts as lts
-use Rattle.slots.proofs.bounds.has_twin.Reads as has-twin-reads
-use Rattle.slots.proofs.bounds.slot_ok.Reads as slot-ok-reads
 
 abbrev Inv-loop : tie.InvT-loop
 Inv-loop own slots i₀ i = (length slots ≡ 8) × (i ≤ 8) × (slotsOk own (drop i slots) ≡ slotsOk own slots)
@@ -21,23 +17,18 @@ Inv-loop own slots i₀ i = (length slots ≡ 8) × (i ≤ 8) × (slotsOk own (d
 abbrev μ-loop : tie.MeasureT-loop
 μ-loop own slots i₀ i = 8 - i
 
--- src/bounds.rt:135:5
 loop-holds : tie.Need-loop-holds Inv-loop μ-loop
 loop-holds c = search needs
 
--- src/bounds.rt:136:17
 mul-s : tie.Need-mul-s Inv-loop μ-loop
 mul-s c = search needs
 
--- src/bounds.rt:136:17
 array-copy-out-s : tie.Need-array-copy-out-s Inv-loop μ-loop
 array-copy-out-s c = search needs
 
--- src/bounds.rt:137:13
 slot-ok-requires : tie.Need-slot-ok-requires Inv-loop μ-loop
 slot-ok-requires c κs = search needs
 
--- src/bounds.rt:138:13
 returns : tie.Need-returns Inv-loop μ-loop
 unfolding slotsOk
 returns c =
@@ -46,15 +37,12 @@ returns c =
     and-stop _ _ (sym (and-stop _ _ (sym (c .before .slot-ok .ensures) ∙ not-true _ (c .if1 .taken))))
     ∙ sym (turn f (at .before .args .t1) (at .loop .i) _ (search needs)) ∙ at .loop .inv .2
 
--- src/bounds.rt:140:28
 add-has-twin : tie.Need-add-has-twin Inv-loop μ-loop
 add-has-twin c = search needs
 
--- src/bounds.rt:140:12
 has-twin-requires : tie.Need-has-twin-requires Inv-loop μ-loop
 has-twin-requires c κs = search needs
 
--- src/bounds.rt:141:13
 returns-2 : tie.Need-returns-2 Inv-loop μ-loop
 unfolding slotsOk
 returns-2 c =
@@ -64,15 +52,12 @@ returns-2 c =
     (sym (ap not (sym (c .before .has-twin .ensures) ∙ c .if2 .taken)))))
     ∙ sym (turn f (at .before .args .t1) (at .loop .i) _ (search needs)) ∙ at .loop .inv .2
 
--- src/bounds.rt:143:13
 add-i : tie.Need-add-i Inv-loop μ-loop
 add-i c = search needs
 
--- src/bounds.rt:135:5
 loop-less : tie.Need-loop-less Inv-loop μ-loop
 loop-less c = search needs
 
--- src/bounds.rt:135:5
 loop-again : tie.Need-loop-again Inv-loop μ-loop
 unfolding slotsOk
 loop-again c =
@@ -85,7 +70,6 @@ loop-again c =
           ∙ sym (turn f (at .before .args .t1) (at .loop .i) _ (search needs)) ∙ at .loop .inv .2,
     )
 
--- src/bounds.rt:131:1
 returns-3 : tie.Need-returns-3 Inv-loop μ-loop
 unfolding slotsOk
 returns-3 c =

@@ -1,32 +1,22 @@
 use borrow.Author.Needs.{needs}
 use Rattle.slots.proofs.place.bytes_of.Statement.{statement}
 use Rattle.slots.proofs.place.bytes_of.Tie as tie
-use Rattle.slots.proofs.place.bytes_of.Reads as reads
-use Rattle.slots.proofs.place.bytes_of.Lts as lts
-use Rattle.slots.proofs.place.cut.Reads as cut-reads
-use Rattle.slots.proofs.place.cut_message.Reads as cut-message-reads
 
--- src/place.rt:47:24
 enum-known-place : tie.Need-enum-known-place
 enum-known-place c = search needs
 
--- src/place.rt:47:40
 cut-requires : tie.Need-cut-requires
 cut-requires c κs = search needs
 
--- src/place.rt:48:26
 enum-known-place-2 : tie.Need-enum-known-place-2
 enum-known-place-2 c = search needs
 
--- src/place.rt:48:43
 cut-message-requires : tie.Need-cut-message-requires
 cut-message-requires c κs = search needs
 
--- src/place.rt:43:1
 returns : tie.Need-returns
 returns c = rw (c .before .before .place .given .1) (c .cut .ensures)
 
--- src/place.rt:43:1
 returns-2 : tie.Need-returns-2
 returns-2 c = rw (c .before .before .place2 .given .1) (c .cut-message .ensures)
 

@@ -4,39 +4,28 @@ use Rattle.laws.specs.Choice.{then, else}
 use borrow.Author.Needs.{needs}
 use Rattle.slots.proofs.place.cut_message.Statement.{statement}
 use Rattle.slots.proofs.place.cut_message.Tie as tie
-use Rattle.slots.proofs.place.cut_message.Reads as reads
-use Rattle.slots.proofs.place.cut_message.Lts as lts
-use Rattle.slots.proofs.place.cut.Reads as cut-reads
 
--- src/place.rt:33:9
 slice-aggregate-result : tie.Need-slice-aggregate-result
 slice-aggregate-result c = search needs
 
--- src/place.rt:33:9
 returns : tie.Need-returns
 returns c = then _ _ _ _ (le-leb _ _ (c .before .if1 .taken)) refl
 
--- src/place.rt:36:9
 slice-aggregate-result-2 : tie.Need-slice-aggregate-result-2
 slice-aggregate-result-2 c = search needs
 
--- src/place.rt:36:9
 returns-2 : tie.Need-returns-2
 returns-2 c = else _ _ _ _ (lt-leb _ _ (c .before .before .before .if1 .left)) (then _ _ _ _ (lt-ltb _ _ (c .before .if2 .taken)) refl)
 
--- src/place.rt:38:16
 mul-base : tie.Need-mul-base
 mul-base c = search needs
 
--- src/place.rt:39:22
 cast-cut : tie.Need-cast-cut
 cast-cut c = search needs
 
--- src/place.rt:39:5
 cut-requires : tie.Need-cut-requires
 cut-requires c κs = search needs
 
--- src/place.rt:29:1
 returns-3 : tie.Need-returns-3
 returns-3 c = else _ _ _ _ (lt-leb _ _ (c .before .before .before .before .if1 .left)) (else _ _ _ _ (le-ltb _ _ (c .before .before .if2 .left)) (c .cut .ensures))
 

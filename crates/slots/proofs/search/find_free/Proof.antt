@@ -1,5 +1,5 @@
-use Prim.Native.Nat.{ℕ, _+_, _-_, _<_, _≤_}
-use mathlib.Core.Path.{_≡_, refl, sym, _∙_}
+use Prim.Native.Nat.{_-_, _≤_}
+use mathlib.Core.Path.{_≡_}
 use lib.ListN.{length, drop}
 use native.Mathlib.Omega.{arith}
 use Rattle.slots.specs.Slots.{firstFree, firstAt, isFree}
@@ -7,9 +7,6 @@ use Rattle.slots.proofs.Turns.{first-on, first-here, first-none}
 use borrow.Author.Needs.{needs}
 use Rattle.slots.proofs.search.find_free.Statement.{statement}
 use Rattle.slots.proofs.search.find_free.Tie as tie
-use Rattle.slots.proofs.search.find_free.Reads as reads
-use Rattle.slots.proofs.search.find_free.Lts as lts
-use Rattle.slots.proofs.search.is_free.Reads as is-free-reads
 
 abbrev Inv-loop : tie.InvT-loop
 Inv-loop slots i₀ i = (length slots ≡ 8) × (i ≤ 8) × (firstAt isFree i (drop i slots) ≡ firstFree slots)
@@ -17,42 +14,33 @@ Inv-loop slots i₀ i = (length slots ≡ 8) × (i ≤ 8) × (firstAt isFree i (
 abbrev μ-loop : tie.MeasureT-loop
 μ-loop slots i₀ i = 8 - i
 
--- src/slot.rt:59:9
 loop-holds : tie.Need-loop-holds Inv-loop μ-loop
 loop-holds c = search needs
 
--- src/slot.rt:63:20
 mul-is-free : tie.Need-mul-is-free Inv-loop μ-loop
 mul-is-free c = search needs
 
--- src/slot.rt:63:20
 array-copy-out-is-free : tie.Need-array-copy-out-is-free Inv-loop μ-loop
 array-copy-out-is-free c = search needs
 
--- src/slot.rt:63:12
 is-free-requires : tie.Need-is-free-requires Inv-loop μ-loop
 is-free-requires c κs = search needs
 
--- src/slot.rt:66:13
 add-i : tie.Need-add-i Inv-loop μ-loop
 add-i c = search needs
 
--- src/slot.rt:59:9
 loop-less : tie.Need-loop-less Inv-loop μ-loop
 loop-less c = search needs
 
--- src/slot.rt:59:9
 loop-again : tie.Need-loop-again Inv-loop μ-loop
 loop-again c =
     let at = c .before .before .before .before in
     (search needs, search needs, first-on isFree (at .before .args .t1) (at .loop .i) _ (at .loop .inv .2) _ _ (c .before .is-free .ensures) (c .if2 .left) (search needs))
 
--- src/slot.rt:55:1
 returns : tie.Need-returns Inv-loop μ-loop
 returns c =
     let at = c .before in (first-none isFree (at .before .args .t1) (at .loop .i) _ (at .loop .inv .2) (omega arith), tt)
 
--- src/slot.rt:55:1
 returns-2 : tie.Need-returns-2 Inv-loop μ-loop
 returns-2 c =
     let at = c .before .before .before .before in

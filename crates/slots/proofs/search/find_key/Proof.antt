@@ -1,5 +1,5 @@
-use Prim.Native.Nat.{ℕ, _+_, _-_, _<_, _≤_}
-use mathlib.Core.Path.{_≡_, refl, sym, _∙_}
+use Prim.Native.Nat.{_-_, _≤_}
+use mathlib.Core.Path.{_≡_}
 use lib.ListN.{length, drop}
 use native.Mathlib.Omega.{arith}
 use Rattle.slots.specs.Slots.{keyPlace, firstAt, holdsKey}
@@ -7,9 +7,6 @@ use Rattle.slots.proofs.Turns.{first-on, first-here, first-none}
 use borrow.Author.Needs.{needs}
 use Rattle.slots.proofs.search.find_key.Statement.{statement}
 use Rattle.slots.proofs.search.find_key.Tie as tie
-use Rattle.slots.proofs.search.find_key.Reads as reads
-use Rattle.slots.proofs.search.find_key.Lts as lts
-use Rattle.slots.proofs.search.holds_key.Reads as holds-key-reads
 
 abbrev Inv-loop : tie.InvT-loop
 Inv-loop k slots i₀ i = (length slots ≡ 8) × (i ≤ 8) × (firstAt (holdsKey k) i (drop i slots) ≡ keyPlace k slots)
@@ -17,42 +14,33 @@ Inv-loop k slots i₀ i = (length slots ≡ 8) × (i ≤ 8) × (firstAt (holdsKe
 abbrev μ-loop : tie.MeasureT-loop
 μ-loop k slots i₀ i = 8 - i
 
--- src/slot.rt:76:9
 loop-holds : tie.Need-loop-holds Inv-loop μ-loop
 loop-holds c = search needs
 
--- src/slot.rt:80:22
 mul-holds-key : tie.Need-mul-holds-key Inv-loop μ-loop
 mul-holds-key c = search needs
 
--- src/slot.rt:80:22
 array-copy-out-holds-key : tie.Need-array-copy-out-holds-key Inv-loop μ-loop
 array-copy-out-holds-key c = search needs
 
--- src/slot.rt:80:12
 holds-key-requires : tie.Need-holds-key-requires Inv-loop μ-loop
 holds-key-requires c κs = search needs
 
--- src/slot.rt:83:13
 add-i : tie.Need-add-i Inv-loop μ-loop
 add-i c = search needs
 
--- src/slot.rt:76:9
 loop-less : tie.Need-loop-less Inv-loop μ-loop
 loop-less c = search needs
 
--- src/slot.rt:76:9
 loop-again : tie.Need-loop-again Inv-loop μ-loop
 loop-again c =
     let at = c .before .before .before .before in
     (search needs, search needs, first-on (holdsKey _) (at .before .args .t1) (at .loop .i) _ (at .loop .inv .2) _ _ (c .before .holds-key .ensures) (c .if2 .left) (search needs))
 
--- src/slot.rt:72:1
 returns : tie.Need-returns Inv-loop μ-loop
 returns c =
     let at = c .before in (first-none (holdsKey _) (at .before .args .t1) (at .loop .i) _ (at .loop .inv .2) (omega arith), tt)
 
--- src/slot.rt:72:1
 returns-2 : tie.Need-returns-2 Inv-loop μ-loop
 returns-2 c =
     let at = c .before .before .before .before in

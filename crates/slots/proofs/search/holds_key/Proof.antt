@@ -1,27 +1,19 @@
 use borrow.Author.Needs.{needs}
 use Rattle.slots.proofs.search.holds_key.Statement.{statement}
 use Rattle.slots.proofs.search.holds_key.Tie as tie
-use Rattle.slots.proofs.search.holds_key.Reads as reads
-use Rattle.slots.proofs.search.holds_key.Lts as lts
-use Rattle.slots.proofs.search.same_key.Reads as same-key-reads
 
--- src/slot.rt:46:28
 enum-told : tie.Need-enum-told
 enum-told c = search needs
 
--- src/slot.rt:47:25
 enum-known-state : tie.Need-enum-known-state
 enum-known-state c = search needs
 
--- src/slot.rt:49:13
 same-key-requires : tie.Need-same-key-requires
 same-key-requires c κs = search needs
 
--- src/slot.rt:41:1
 returns : tie.Need-returns
 returns c = search needs
 
--- src/slot.rt:41:1
 returns-2 : tie.Need-returns-2
 returns-2 c = rw (c .before .before .state .given .1) (c .same-key .ensures)
 

@@ -1,6 +1,6 @@
-use Prim.Native.Nat.{ℕ, _+_, _-_, _<_, _≤_}
-use mathlib.Core.Path.{_≡_, refl, sym, ap, _∙_}
-use lib.ListN.{length, drop, length-set}
+use Prim.Native.Nat.{ℕ, _-_, _≤_}
+use mathlib.Core.Path.{_≡_, refl, ap, _∙_}
+use lib.ListN.{length, length-set}
 use lib.Seq.{paste, paste-zero}
 use denote.Ref.{now}
 use native.Mathlib.Omega.{arith}
@@ -9,8 +9,6 @@ use Rattle.laws.specs.Copy.{copy-turn}
 use borrow.Author.Needs.{needs}
 use Rattle.slots.proofs.store.copy_in.Statement.{statement}
 use Rattle.slots.proofs.store.copy_in.Tie as tie
-use Rattle.slots.proofs.store.copy_in.Reads as reads
-use Rattle.slots.proofs.store.copy_in.Lts as lts
 
 abbrev Inv-loop : tie.InvT-loop
 Inv-loop part₀ at bytes n j₀ part j = (part ≡ paste part₀ at (dataAt bytes) j) × (j ≤ n) × (length part ≡ length part₀)
@@ -18,45 +16,35 @@ Inv-loop part₀ at bytes n j₀ part j = (part ≡ paste part₀ at (dataAt byt
 abbrev μ-loop : tie.MeasureT-loop
 μ-loop part₀ at bytes n j₀ part j = n - j
 
--- src/store.rt:15:5
 loop-holds : tie.Need-loop-holds Inv-loop μ-loop
 loop-holds c = (paste-zero (now (c .args .part)) (c .args .at) (dataAt (now (c .args .bytes))), search needs, refl)
 
--- src/store.rt:16:30
 add-part : tie.Need-add-part Inv-loop μ-loop
 add-part c = search needs
 
--- src/store.rt:16:24
 shared-slice-read-part : tie.Need-shared-slice-read-part Inv-loop μ-loop
 shared-slice-read-part c = search needs
 
--- src/store.rt:16:14
 add-part-2 : tie.Need-add-part-2 Inv-loop μ-loop
 add-part-2 c = search needs
 
--- src/store.rt:16:9
 slice-write-part : tie.Need-slice-write-part Inv-loop μ-loop
 slice-write-part c = search needs
 
--- src/store.rt:17:13
 add-j : tie.Need-add-j Inv-loop μ-loop
 add-j c = search needs
 
--- src/store.rt:15:5
 loop-less : tie.Need-loop-less Inv-loop μ-loop
 loop-less c = search needs
 
--- src/store.rt:15:5
 loop-again : tie.Need-loop-again Inv-loop μ-loop
 loop-again c =
     let a = c .before .before .before .args in
     (copy-turn (c .before .before .loop .part) (now (a .part)) (a .at) (now (a .bytes)) 4 (c .before .before .loop .j) (c .before .before .loop .inv .0) (omega arith) (omega arith), search needs, simp length-set (c .before .before .loop .inv .2))
 
--- src/store.rt:10:1
 same-length : tie.Need-same-length Inv-loop μ-loop
 same-length c = search needs
 
--- src/store.rt:10:1
 returns : tie.Need-returns Inv-loop μ-loop
 returns c =
     let e : c .before .loop .j ≡ c .before .before .args .n = omega arith in

@@ -1,6 +1,5 @@
 use Prim.Native.Nat.{ℕ, _+_, _-_, _*_}
-use mathlib.Core.Path.{_≡_, ap, _∙_}
-use mathlib.Core.List.{List}
+use mathlib.Core.Path.{ap, _∙_}
 use denote.Ref.{now}
 use native.Mathlib.Omega.{arith}
 use borrow.Rule.Slice.PartMut.{putMid}
@@ -9,39 +8,28 @@ use Rattle.laws.specs.Copy.{paste-part}
 use borrow.Author.Needs.{needs}
 use Rattle.slots.proofs.store.store_segment.Statement.{statement}
 use Rattle.slots.proofs.store.store_segment.Tie as tie
-use Rattle.slots.proofs.store.store_segment.Reads as reads
-use Rattle.slots.proofs.store.store_segment.Lts as lts
-use Rattle.slots.proofs.store.copy_in.Reads as copy-in-reads
 
--- src/store.rt:26:16
 mul-base : tie.Need-mul-base
 mul-base c = search needs
 
--- src/store.rt:27:15
 add-end : tie.Need-add-end
 add-end c = search needs
 
--- src/store.rt:28:13
 sub-copy-in : tie.Need-sub-copy-in
 sub-copy-in c = search needs
 
--- src/store.rt:28:13
 part-copy-in-start : tie.Need-part-copy-in-start
 part-copy-in-start c = search needs
 
--- src/store.rt:28:13
 part-copy-in-end : tie.Need-part-copy-in-end
 part-copy-in-end c = search needs
 
--- src/store.rt:28:5
 copy-in-requires : tie.Need-copy-in-requires
 copy-in-requires c κs = search needs
 
--- src/store.rt:22:1
 same-length : tie.Need-same-length
 same-length c = search needs
 
--- src/store.rt:22:1
 returns : tie.Need-returns
 returns c =
     let a = c .before .before .before .before .before .before .args in
