@@ -1,5 +1,6 @@
 // Runs worked figures of SAE J1939-22 through the code and prints what comes. The file stdout beside src/ holds what should come,
 // worked out from the standard by hand; no line of it was copied from a run.
+mod calls;
 mod groups;
 mod show;
 mod transfers;
@@ -11,4 +12,7 @@ fn main() {
     transfers::received();
     transfers::sent();
     transfers::segments();
+    let mut store = [0xEEu8; 32768];
+    calls::figures(&mut store);
+    calls::nine_senders(&mut store);
 }

@@ -1,0 +1,64 @@
+use borrow.Author.Needs.{needs}
+use Prim.Native.Nat.{_≤_, _-_}
+use mathlib.Core.Path.{_≡_, refl, _∙_}
+use lib.ListN.{length, length-set}
+use native.Mathlib.Omega.{arith}
+use Rattle.vectors.proofs.calls.all_finish.Statement.{statement}
+use Rattle.vectors.proofs.calls.all_finish.Tie as tie
+use Rattle.vectors.proofs.calls.all_finish.Reads as reads
+use Rattle.vectors.proofs.calls.all_finish.Lts as lts
+use Rattle.vectors.proofs.calls.finish.Reads as finish-reads
+use Rattle.vectors.proofs.calls.sender.Reads as sender-reads
+
+abbrev Inv-loop : tie.InvT-loop
+Inv-loop store₀ next₀ sa₀ store next sa = (sa ≤ 10) × (length store ≡ length store₀)
+
+abbrev μ-loop : tie.MeasureT-loop
+μ-loop store₀ next₀ sa₀ store next sa = 10 - sa
+
+-- src/calls.rt:195:5
+loop-holds : tie.Need-loop-holds Inv-loop μ-loop
+loop-holds c = search needs
+
+-- src/calls.rt:196:29
+sender-requires : tie.Need-sender-requires Inv-loop μ-loop
+sender-requires c κs = search needs
+
+-- src/calls.rt:196:9
+finish-requires : tie.Need-finish-requires Inv-loop μ-loop
+finish-requires c κs = search needs
+
+-- src/calls.rt:197:14
+add-sa : tie.Need-add-sa Inv-loop μ-loop
+add-sa c = search needs
+
+-- src/calls.rt:195:5
+loop-less : tie.Need-loop-less Inv-loop μ-loop
+loop-less c = search needs
+
+-- src/calls.rt:195:5
+loop-again : tie.Need-loop-again Inv-loop μ-loop
+loop-again c = search needs
+
+-- src/calls.rt:192:1
+same-length : tie.Need-same-length Inv-loop μ-loop
+same-length c = search needs
+
+-- src/calls.rt:192:1
+returns : tie.Need-returns Inv-loop μ-loop
+returns c = search needs
+
+pub all-finish-spec : {M : Type 1} → statement M
+all-finish-spec =
+    tie.close
+    (tie.spec
+    Inv-loop
+    μ-loop
+    loop-holds
+    sender-requires
+    finish-requires
+    add-sa
+    loop-less
+    loop-again
+    same-length
+    returns)
