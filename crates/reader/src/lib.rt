@@ -1,0 +1,74 @@
+// A reader that holds its frame and its place, and yields the frame's groups one after another (01, "Groups in one frame").
+// The functions over the struct are thin: each takes it apart and leaves the work to one over the slice and the place.
+ghost use mathlib.Core.Path.{_≡_};
+ghost use Rattle.multi_pg.specs.Groups.{startOf, nextAt};
+ghost use Rattle.reader.specs.Runs.{restAt};
+use multi_pg::Cursor;
+use multi_pg::Next;
+
+pub struct Reader<'a> {
+    pub frame: &'a [u8],
+    pub at: usize,
+}
+
+// Where a reader begins: at the frame's end, if the frame is refused.
+pub fn start_of(frame: &[u8]) -> usize
+    ensures { λ r. ⌜ r ≡ startOf (now (frame .entry)) ⌝ }
+{
+    let start = Cursor::over(frame);
+    start.at
+}
+
+pub fn next_at(frame: &[u8], at: usize) -> Next
+    ensures { λ r. ⌜ r ≡ nextAt (now (frame .entry)) at ⌝ }
+{
+    let reader = Cursor { at };
+    reader.next(frame)
+}
+
+// Behind the group at a place; where none stands, the place itself.
+pub fn rest_at(frame: &[u8], at: usize) -> usize
+    ensures { λ r. ⌜ r ≡ restAt (now (frame .entry)) at ⌝ }
+{
+    match next_at(frame, at) {
+        Next::Given(_, to) => to.at,
+        Next::End => at,
+    }
+}
+
+// A reader over a frame, which is judged whole first.
+pub fn over<'a>(frame: &'a [u8]) -> Reader<'a>
+    ensures { λ r. ⌜ (r .frame ≡ frame .entry) × (r .at ≡ startOf (now (frame .entry))) ⌝ }
+{
+    let at = start_of(frame);
+    Reader { frame, at }
+}
+
+// The next group, or the end.
+pub fn next<'a>(r: Reader<'a>) -> Next
+    ensures { λ n. ⌜ n ≡ nextAt (now (r .entry .frame)) (r .entry .at) ⌝ }
+{
+    next_at(r.frame, r.at)
+}
+
+// The reader behind the next group.
+pub fn rest<'a>(r: Reader<'a>) -> Reader<'a>
+    ensures { λ q. ⌜ (q .frame ≡ r .entry .frame) × (q .at ≡ restAt (now (r .entry .frame)) (r .entry .at)) ⌝ }
+{
+    let at = rest_at(r.frame, r.at);
+    Reader { frame: r.frame, at }
+}
+
+// The first group of a frame: of a refused frame none.
+pub fn first(frame: &[u8]) -> Next
+    ensures { λ r. ⌜ r ≡ nextAt (now (frame .entry)) (startOf (now (frame .entry))) ⌝ }
+{
+    next(over(frame))
+}
+
+// The group at a place that a reader has come to.
+pub fn group_at(frame: &[u8], at: usize) -> Next
+    ensures { λ r. ⌜ r ≡ nextAt (now (frame .entry)) at ⌝ }
+{
+    next(Reader { frame, at })
+}
