@@ -15,9 +15,9 @@ use super::step::refuse;
 use super::step::with_slot;
 use frame::SegmentNumber;
 use frame::refusal::Refusal;
+use progress::brought_forward;
 use session::Session;
 use session::segment::Judged;
-use session::segment::advance;
 use session::segment::due;
 use session::segment::is_cts_due;
 use session::segment::judge_segment;
@@ -34,7 +34,7 @@ fn take(r: Receiver, i: usize, s: Session, n: SegmentNumber) -> Stepped
     requires { ⌜ (i < 8) × (n .0 < 16777216) ⌝ }
     ensures { λ x. ⌜ x ≡ taken r i s (n .0) ⌝ }
 {
-    let after = advance(s, n, r.last);
+    let after = brought_forward(s, n, r.last);
     let next = with_slot(r, i, SlotState::Open(after));
     if is_cts_due(s, n) {
         let cts = next_cts(s, n);

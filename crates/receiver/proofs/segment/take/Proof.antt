@@ -9,8 +9,8 @@ use borrow.Author.Needs.{needs}
 use Rattle.receiver.proofs.segment.take.Statement.{statement}
 use Rattle.receiver.proofs.segment.take.Tie as tie
 
-advance-requires : tie.Need-advance-requires
-advance-requires c κs = search needs
+brought-forward-requires : tie.Need-brought-forward-requires
+brought-forward-requires c κs = search needs
 
 with-slot-requires : tie.Need-with-slot-requires
 with-slot-requires c κs = search needs
@@ -24,20 +24,20 @@ next-cts-requires c κs = search needs
 returns : tie.Need-returns
 returns c =
     let a = c .before .before .before .before .before .args in
-    stepped _ _ _ _ (c .before .before .before .with-slot .ensures ∙ ap (λ (s : Session). withSlot (a .r) (a .i) (Open s)) (c .before .before .before .before .advance .ensures))
+    stepped _ _ _ _ (c .before .before .before .with-slot .ensures ∙ ap (λ (s : Session). withSlot (a .r) (a .i) (Open s)) (c .before .before .before .before .brought-forward .ensures))
     (then _ _ _ _ (sym (c .before .before .is-cts-due .ensures) ∙ c .before .if1 .taken) (ap Grant (c .next-cts .ensures)))
 
 returns-2 : tie.Need-returns-2
 returns-2 c =
     let a = c .before .before .before .before .before .args in
-    stepped _ _ _ _ (c .before .before .before .with-slot .ensures ∙ ap (λ (s : Session). withSlot (a .r) (a .i) (Open s)) (c .before .before .before .before .advance .ensures))
+    stepped _ _ _ _ (c .before .before .before .with-slot .ensures ∙ ap (λ (s : Session). withSlot (a .r) (a .i) (Open s)) (c .before .before .before .before .brought-forward .ensures))
     (else _ _ _ _ (sym (c .before .before .is-cts-due .ensures) ∙ c .before .if1 .left) refl)
 
 pub take-spec : {M : Type 1} → statement M
 take-spec =
     tie.close
     (tie.spec
-    advance-requires
+    brought-forward-requires
     with-slot-requires
     is-cts-due-requires
     next-cts-requires
