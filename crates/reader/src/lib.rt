@@ -2,7 +2,7 @@
 // The functions over the struct are thin: each takes it apart and leaves the work to one over the slice and the place.
 ghost use mathlib.Core.Path.{_≡_};
 ghost use Rattle.multi_pg.specs.Groups.{startOf, nextAt};
-ghost use Rattle.reader.specs.Runs.{restAt};
+ghost use Rattle.reader.specs.Runs.{restAt, overOf, nextOf, restOf};
 use multi_pg::Cursor;
 use multi_pg::Next;
 
@@ -11,7 +11,7 @@ pub struct Reader<'a> {
     pub at: usize,
 }
 
-// Where a reader begins: at the frame's end, if the frame is refused.
+// Where a reader begins: 0 in a frame judged good, the frame's end in any other.
 pub fn start_of(frame: &[u8]) -> usize
     ensures { λ r. ⌜ r ≡ startOf (now (frame .entry)) ⌝ }
 {
@@ -19,7 +19,7 @@ pub fn start_of(frame: &[u8]) -> usize
     start.at
 }
 
-pub fn next_at(frame: &[u8], at: usize) -> Next
+fn next_at(frame: &[u8], at: usize) -> Next
     ensures { λ r. ⌜ r ≡ nextAt (now (frame .entry)) at ⌝ }
 {
     let reader = Cursor { at };
@@ -27,7 +27,7 @@ pub fn next_at(frame: &[u8], at: usize) -> Next
 }
 
 // Behind the group at a place; where none stands, the place itself.
-pub fn rest_at(frame: &[u8], at: usize) -> usize
+fn rest_at(frame: &[u8], at: usize) -> usize
     ensures { λ r. ⌜ r ≡ restAt (now (frame .entry)) at ⌝ }
 {
     match next_at(frame, at) {
@@ -36,9 +36,9 @@ pub fn rest_at(frame: &[u8], at: usize) -> usize
     }
 }
 
-// A reader over a frame, which is judged whole first.
+// A reader over a frame, which is judged whole first: of a refused one it gives out no group, and read::judge has the refusal.
 pub fn over<'a>(frame: &'a [u8]) -> Reader<'a>
-    ensures { λ r. ⌜ (r .frame ≡ frame .entry) × (r .at ≡ startOf (now (frame .entry))) ⌝ }
+    ensures { λ r. ⌜ r ≡ overOf (frame .entry) ⌝ }
 {
     let at = start_of(frame);
     Reader { frame, at }
@@ -46,20 +46,20 @@ pub fn over<'a>(frame: &'a [u8]) -> Reader<'a>
 
 // The next group, or the end.
 pub fn next<'a>(r: Reader<'a>) -> Next
-    ensures { λ n. ⌜ n ≡ nextAt (now (r .entry .frame)) (r .entry .at) ⌝ }
+    ensures { λ n. ⌜ n ≡ nextOf (r .entry) ⌝ }
 {
     next_at(r.frame, r.at)
 }
 
-// The reader behind the next group.
+// The reader of what follows the next group.
 pub fn rest<'a>(r: Reader<'a>) -> Reader<'a>
-    ensures { λ q. ⌜ (q .frame ≡ r .entry .frame) × (q .at ≡ restAt (now (r .entry .frame)) (r .entry .at)) ⌝ }
+    ensures { λ q. ⌜ q ≡ restOf (r .entry) ⌝ }
 {
     let at = rest_at(r.frame, r.at);
     Reader { frame: r.frame, at }
 }
 
-// The first group of a frame: of a refused frame none.
+// The first group of a frame. Here and below the parameters are plain, so a caller needs no walk.
 pub fn first(frame: &[u8]) -> Next
     ensures { λ r. ⌜ r ≡ nextAt (now (frame .entry)) (startOf (now (frame .entry))) ⌝ }
 {
