@@ -98,10 +98,12 @@ endingNumbers e = e .key .sa .0 ∷ e .key .session .0 ∷ numberOf (e .refusal)
 abbrev pub endingLine : Ending → List ℕ
 endingLine e = lineOf (endingWord (e .kind)) (endingNumbers e)
 
+abbrev pub messageNumbers : Message → List ℕ
+messageNumbers m = m .key .sa .0 ∷ m .key .da .0 ∷ m .key .session .0 ∷ m .pgn ∷ m .total .0 ∷ []
+
 -- the message's bytes follow its length on the line
 abbrev pub messageLine : Message → List ℕ → List ℕ
-messageLine m bytes =
-    lineOf msgWord (m .key .sa .0 ∷ m .key .da .0 ∷ m .key .session .0 ∷ m .pgn ∷ m .total .0 ∷ bytes)
+messageLine m bytes = lineOf msgWord (messageNumbers m ++ bytes)
 
 -- an RTS session is acknowledged first
 abbrev pub messageLines : Message → List ℕ → List ℕ

@@ -1,5 +1,5 @@
 // The lines of a frame's answer.
-ghost use Rattle.report.specs.Lines.{sessionLine, endingNumbers, endingLine, refusedLine, messageLine, messageLines, answerLines};
+ghost use Rattle.report.specs.Lines.{sessionLine, endingNumbers, endingLine, refusedLine, messageNumbers, messageLine, messageLines, answerLines};
 ghost use Rattle.report.specs.Lines.{openWord, tookWord, ctsWord, abortWord, eomaWord, endedWord};
 ghost use Rattle.text.specs.Line.{Placed};
 ghost use mathlib.Core.Path.{_≡_};
@@ -103,17 +103,24 @@ fn write_rejection(out: &mut [u8], at: usize, rejection: Rejection) -> Wrote
     write_plain(out, at, b"send abort", &fields)
 }
 
-// A message by itself, as a BAM's is handed over.
-fn write_message(out: &mut [u8], at: usize, m: Message, bytes: &[u8]) -> Wrote
-    ensures { λ r. ⌜ Placed (now (out .entry)) at (messageLine m (now (bytes .entry))) r (now (out .exit)) ⌝ }
+// What stands before a message's bytes.
+fn message_numbers(m: Message) -> [u64; 5]
+    ensures { λ r. ⌜ r ≡ messageNumbers m ⌝ }
 {
-    let fields = [
+    [
         m.key.sa.0 as u64,
         m.key.da.0 as u64,
         m.key.session.0 as u64,
         m.pgn as u64,
         m.total.0 as u64,
-    ];
+    ]
+}
+
+// A message by itself, as a BAM's is handed over.
+fn write_message(out: &mut [u8], at: usize, m: Message, bytes: &[u8]) -> Wrote
+    ensures { λ r. ⌜ Placed (now (out .entry)) at (messageLine m (now (bytes .entry))) r (now (out .exit)) ⌝ }
+{
+    let fields = message_numbers(m);
     write_line(out, at, b"msg", &fields, bytes)
 }
 
@@ -122,13 +129,7 @@ fn write_acknowledged(out: &mut [u8], at: usize, m: Message, bytes: &[u8]) -> Wr
     ensures { λ r. ⌜ Placed (now (out .entry)) at (sessionLine eomaWord (m .key) [] ++ messageLine m (now (bytes .entry))) r (now (out .exit)) ⌝ }
 {
     let session = [m.key.sa.0 as u64, m.key.session.0 as u64];
-    let fields = [
-        m.key.sa.0 as u64,
-        m.key.da.0 as u64,
-        m.key.session.0 as u64,
-        m.pgn as u64,
-        m.total.0 as u64,
-    ];
+    let fields = message_numbers(m);
     write_two(out, at, b"send eoma", &session, b"msg", &fields, bytes)
 }
 
