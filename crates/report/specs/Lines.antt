@@ -19,53 +19,43 @@ use Rattle.receiver.specs.declared.answer.End.the-variants as end
 use Rattle.receiver.specs.declared.answer.SlotEnd.{SlotEnd}
 use Rattle.receiver.specs.declared.answer.Kept.{Kept}
 use Rattle.receiver.specs.declared.answer.Kept.the-variants as kept
+use Rattle.text.specs.Ascii.{ascii}
 use Rattle.text.specs.Line.{lineOf}
 
--- ---- the words, in ASCII
+-- ---- the words
 
--- pg
 abbrev pub pgWord : List ℕ
-pgWord = 112 ∷ 103 ∷ []
+pgWord = ascii "pg"
 
--- open
 abbrev pub openWord : List ℕ
-openWord = 111 ∷ 112 ∷ 101 ∷ 110 ∷ []
+openWord = ascii "open"
 
--- took
 abbrev pub tookWord : List ℕ
-tookWord = 116 ∷ 111 ∷ 111 ∷ 107 ∷ []
+tookWord = ascii "took"
 
--- send cts
 abbrev pub ctsWord : List ℕ
-ctsWord = 115 ∷ 101 ∷ 110 ∷ 100 ∷ 32 ∷ 99 ∷ 116 ∷ 115 ∷ []
+ctsWord = ascii "send cts"
 
--- send abort
 abbrev pub abortWord : List ℕ
-abortWord = 115 ∷ 101 ∷ 110 ∷ 100 ∷ 32 ∷ 97 ∷ 98 ∷ 111 ∷ 114 ∷ 116 ∷ []
+abortWord = ascii "send abort"
 
--- send eoma
 abbrev pub eomaWord : List ℕ
-eomaWord = 115 ∷ 101 ∷ 110 ∷ 100 ∷ 32 ∷ 101 ∷ 111 ∷ 109 ∷ 97 ∷ []
+eomaWord = ascii "send eoma"
 
--- msg
 abbrev pub msgWord : List ℕ
-msgWord = 109 ∷ 115 ∷ 103 ∷ []
+msgWord = ascii "msg"
 
--- ended
 abbrev pub endedWord : List ℕ
-endedWord = 101 ∷ 110 ∷ 100 ∷ 101 ∷ 100 ∷ []
+endedWord = ascii "ended"
 
--- refused
 abbrev pub refusedWord : List ℕ
-refusedWord = 114 ∷ 101 ∷ 102 ∷ 117 ∷ 115 ∷ 101 ∷ 100 ∷ []
+refusedWord = ascii "refused"
 
--- end
 abbrev pub endWord : List ℕ
-endWord = 101 ∷ 110 ∷ 100 ∷ []
+endWord = ascii "end"
 
--- bad record at
 abbrev pub badWord : List ℕ
-badWord = 98 ∷ 97 ∷ 100 ∷ 32 ∷ 114 ∷ 101 ∷ 99 ∷ 111 ∷ 114 ∷ 100 ∷ 32 ∷ 97 ∷ 116 ∷ []
+badWord = ascii "bad record at"
 
 -- ---- lines
 
