@@ -6,48 +6,34 @@ use Rattle.report.specs.Lines.{sessionLine, eomaWord, msgWord}
 use borrow.Author.Needs.{needs}
 use Rattle.report.proofs.answer.write_acknowledged.Statement.{statement}
 use Rattle.report.proofs.answer.write_acknowledged.Tie as tie
-use Rattle.report.proofs.answer.write_acknowledged.Reads as reads
-use Rattle.report.proofs.answer.write_acknowledged.Lts as lts
-use Rattle.report.proofs.answer.message_numbers.Reads as message-numbers-reads
-use Rattle.text.proofs.line.write_two.Reads as write-two-reads
 
--- src/answer.rt:131:20
 cast-t9 : tie.Need-cast-t9
 cast-t9 c = search needs
 
--- src/answer.rt:131:39
 cast-t10 : tie.Need-cast-t10
 cast-t10 c = search needs
 
--- src/answer.rt:132:18
 message-numbers-requires : tie.Need-message-numbers-requires
 message-numbers-requires c κs = search needs
 
--- src/answer.rt:133:24
 slice-aggregate-write-two : tie.Need-slice-aggregate-write-two
 slice-aggregate-write-two c = search needs
 
--- src/answer.rt:133:38
 slice-aggregate-write-two-2 : tie.Need-slice-aggregate-write-two-2
 slice-aggregate-write-two-2 c = search needs
 
--- src/answer.rt:133:48
 slice-aggregate-write-two-3 : tie.Need-slice-aggregate-write-two-3
 slice-aggregate-write-two-3 c = search needs
 
--- src/answer.rt:133:56
 slice-aggregate-write-two-4 : tie.Need-slice-aggregate-write-two-4
 slice-aggregate-write-two-4 c = search needs
 
--- src/answer.rt:133:5
 write-two-requires : tie.Need-write-two-requires
 write-two-requires c κs = search needs
 
--- src/answer.rt:128:1
 same-length : tie.Need-same-length
 same-length c = search needs
 
--- src/answer.rt:128:1
 returns : tie.Need-returns
 returns c = placed-by (ap (λ (l : List ℕ). sessionLine eomaWord (c .before .before .before .before .before .before .before .before .before .before .before .before .before .args .m .key) [] ++ lineOf msgWord (l ++ c .before .before .before .before .before .before .before .before .before .before .before .before .before .args .bytes .now)) (sym (c .before .before .before .before .before .before .before .before .message-numbers .ensures))) (c .before .before .write-two .ensures)
 

@@ -6,32 +6,22 @@ use Rattle.report.specs.Lines.{msgWord}
 use borrow.Author.Needs.{needs}
 use Rattle.report.proofs.answer.write_message.Statement.{statement}
 use Rattle.report.proofs.answer.write_message.Tie as tie
-use Rattle.report.proofs.answer.write_message.Reads as reads
-use Rattle.report.proofs.answer.write_message.Lts as lts
-use Rattle.report.proofs.answer.message_numbers.Reads as message-numbers-reads
-use Rattle.text.proofs.line.write_line.Reads as write-line-reads
 
--- src/answer.rt:123:18
 message-numbers-requires : tie.Need-message-numbers-requires
 message-numbers-requires c κs = search needs
 
--- src/answer.rt:124:25
 slice-aggregate-write-line : tie.Need-slice-aggregate-write-line
 slice-aggregate-write-line c = search needs
 
--- src/answer.rt:124:33
 slice-aggregate-write-line-2 : tie.Need-slice-aggregate-write-line-2
 slice-aggregate-write-line-2 c = search needs
 
--- src/answer.rt:124:5
 write-line-requires : tie.Need-write-line-requires
 write-line-requires c κs = search needs
 
--- src/answer.rt:120:1
 same-length : tie.Need-same-length
 same-length c = search needs
 
--- src/answer.rt:120:1
 returns : tie.Need-returns
 returns c = placed-by (ap (λ (l : List ℕ). lineOf msgWord (l ++ c .before .before .before .before .before .before .before .before .before .args .bytes .now)) (sym (c .before .before .before .before .before .before .message-numbers .ensures))) (c .before .before .write-line .ensures)
 
