@@ -5,7 +5,7 @@ use lib.ListN.{length}
 use Rattle.transport.specs.declared.Kind.{Kind}
 use Rattle.transport.specs.declared.Kind.the-variants.{Rts, Bam}
 use Rattle.text.specs.Line.{lineOf, leftBy}
-use Rattle.report.specs.Lines.{endingWord, endingNumbers}
+use Rattle.session_lines.specs.Lines.{endingWord, endingNumbers}
 use borrow.Author.Needs.{needs}
 use Rattle.report.proofs.reading.left_after_ending.Statement.{statement}
 use Rattle.report.proofs.reading.left_after_ending.Tie as tie

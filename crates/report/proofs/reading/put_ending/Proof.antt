@@ -6,7 +6,7 @@ use Rattle.transport.specs.declared.Kind.{Kind}
 use Rattle.transport.specs.declared.Kind.the-variants.{Rts, Bam}
 use Rattle.text.specs.Line.{lineOf}
 use Rattle.text.specs.Put.{PutAt}
-use Rattle.report.specs.Lines.{endingWord, endingNumbers}
+use Rattle.session_lines.specs.Lines.{endingWord, endingNumbers}
 use borrow.Author.Needs.{needs}
 use Rattle.report.proofs.reading.put_ending.Statement.{statement}
 use Rattle.report.proofs.reading.put_ending.Tie as tie

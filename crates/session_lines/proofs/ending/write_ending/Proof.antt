@@ -2,10 +2,10 @@ use mathlib.Core.Path.{sym, ap, _∙_}
 use Rattle.transport.specs.declared.Kind.{Kind}
 use Rattle.transport.specs.declared.Kind.the-variants.{Rts, Bam}
 use Rattle.text.specs.Line.{lineOf, placed-by}
-use Rattle.report.specs.Lines.{endingWord, endingNumbers}
+use Rattle.session_lines.specs.Lines.{endingWord, endingNumbers}
 use borrow.Author.Needs.{needs}
-use Rattle.report.proofs.answer.write_ending.Statement.{statement}
-use Rattle.report.proofs.answer.write_ending.Tie as tie
+use Rattle.session_lines.proofs.ending.write_ending.Statement.{statement}
+use Rattle.session_lines.proofs.ending.write_ending.Tie as tie
 
 ending-numbers-requires : tie.Need-ending-numbers-requires
 ending-numbers-requires c κs = search needs

@@ -2,10 +2,10 @@ use Prim.Native.Nat.{ℕ}
 use mathlib.Core.Path.{sym, ap}
 use mathlib.Core.List.{[], _∷_}
 use Rattle.text.specs.Line.{lineOf, placed-by}
-use Rattle.report.specs.Lines.{refusedWord}
+use Rattle.session_lines.specs.Lines.{refusedWord}
 use borrow.Author.Needs.{needs}
-use Rattle.report.proofs.answer.write_refused.Statement.{statement}
-use Rattle.report.proofs.answer.write_refused.Tie as tie
+use Rattle.session_lines.proofs.ending.write_refused.Statement.{statement}
+use Rattle.session_lines.proofs.ending.write_refused.Tie as tie
 
 number-requires : tie.Need-number-requires
 number-requires c κs = search needs

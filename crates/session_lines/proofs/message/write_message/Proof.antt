@@ -2,10 +2,10 @@ use Prim.Native.Nat.{ℕ}
 use mathlib.Core.Path.{sym, ap}
 use mathlib.Core.List.{List, _++_}
 use Rattle.text.specs.Line.{lineOf, placed-by}
-use Rattle.report.specs.Lines.{msgWord}
+use Rattle.session_lines.specs.Lines.{msgWord}
 use borrow.Author.Needs.{needs}
-use Rattle.report.proofs.answer.write_message.Statement.{statement}
-use Rattle.report.proofs.answer.write_message.Tie as tie
+use Rattle.session_lines.proofs.message.write_message.Statement.{statement}
+use Rattle.session_lines.proofs.message.write_message.Tie as tie
 
 message-numbers-requires : tie.Need-message-numbers-requires
 message-numbers-requires c κs = search needs

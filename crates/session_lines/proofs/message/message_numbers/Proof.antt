@@ -1,7 +1,7 @@
 use mathlib.Core.Path.{refl}
 use borrow.Author.Needs.{needs}
-use Rattle.report.proofs.answer.message_numbers.Statement.{statement}
-use Rattle.report.proofs.answer.message_numbers.Tie as tie
+use Rattle.session_lines.proofs.message.message_numbers.Statement.{statement}
+use Rattle.session_lines.proofs.message.message_numbers.Tie as tie
 
 cast-t2 : tie.Need-cast-t2
 cast-t2 c = search needs

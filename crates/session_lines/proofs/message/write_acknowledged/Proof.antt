@@ -2,10 +2,10 @@ use Prim.Native.Nat.{ℕ}
 use mathlib.Core.Path.{sym, ap}
 use mathlib.Core.List.{List, [], _++_}
 use Rattle.text.specs.Line.{lineOf, placed-by}
-use Rattle.report.specs.Lines.{sessionLine, eomaWord, msgWord}
+use Rattle.session_lines.specs.Lines.{sessionLine, eomaWord, msgWord}
 use borrow.Author.Needs.{needs}
-use Rattle.report.proofs.answer.write_acknowledged.Statement.{statement}
-use Rattle.report.proofs.answer.write_acknowledged.Tie as tie
+use Rattle.session_lines.proofs.message.write_acknowledged.Statement.{statement}
+use Rattle.session_lines.proofs.message.write_acknowledged.Tie as tie
 
 cast-t9 : tie.Need-cast-t9
 cast-t9 c = search needs

@@ -2,8 +2,8 @@ use Prim.Native.Nat.{ℕ}
 use mathlib.Core.Path.{ap}
 use mathlib.Core.List.{[], _∷_}
 use borrow.Author.Needs.{needs}
-use Rattle.report.proofs.answer.ending_numbers.Statement.{statement}
-use Rattle.report.proofs.answer.ending_numbers.Tie as tie
+use Rattle.session_lines.proofs.ending.ending_numbers.Statement.{statement}
+use Rattle.session_lines.proofs.ending.ending_numbers.Tie as tie
 
 number-requires : tie.Need-number-requires
 number-requires c κs = search needs

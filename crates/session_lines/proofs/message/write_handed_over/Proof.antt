@@ -4,10 +4,10 @@ use Rattle.text.specs.Line.{placed-by}
 use mathlib.Core.Bool.{cond}
 use Rattle.transport.specs.declared.Kind.{Kind}
 use Rattle.session.specs.Announcements.{isRts}
-use Rattle.report.specs.Lines.{sessionLine, messageLine, eomaWord}
+use Rattle.session_lines.specs.Lines.{sessionLine, messageLine, eomaWord}
 use borrow.Author.Needs.{needs}
-use Rattle.report.proofs.answer.write_handed_over.Statement.{statement}
-use Rattle.report.proofs.answer.write_handed_over.Tie as tie
+use Rattle.session_lines.proofs.message.write_handed_over.Statement.{statement}
+use Rattle.session_lines.proofs.message.write_handed_over.Tie as tie
 
 enum-told : tie.Need-enum-told
 enum-told c = search needs
