@@ -10,7 +10,6 @@ use Rattle.multi_pg.specs.declared.Next.the-variants as next
 use Rattle.multi_pg.specs.Groups.{groupsOf, nextAt, startOf}
 use Rattle.multi_pg.specs.Places.{next-room}
 use Rattle.multi_pg.specs.Reader.{Yields, done, more, yields-all}
-use Rattle.text.specs.declared.Left.{Left}
 use Rattle.text.specs.declared.Left.the-variants.{Enough, Short}
 use Rattle.text.specs.Line.{leftBy, left-first, left-rest, left-none}
 use Rattle.text.specs.Put.{PutAt, Going, going-start, going-room, going-on, going-end}

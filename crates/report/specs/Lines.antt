@@ -1,17 +1,10 @@
 -- What the program prints: 01, "Program".
 use Prim.Native.Nat.{ℕ}
-use mathlib.Core.Bool.{cond}
 use mathlib.Core.List.{List, [], _∷_, _++_}
 use Rattle.frame.specs.Refusals.{numberOf}
 use Rattle.frame.specs.Identifiers.{identifierOf}
-use Rattle.frame.specs.declared.refusal.Refusal.{Refusal}
 use Rattle.multi_pg.specs.declared.Group.{Group}
 use Rattle.multi_pg.specs.Groups.{groupsOf}
-use Rattle.transport.specs.declared.Key.{Key}
-use Rattle.transport.specs.declared.Kind.{Kind}
-use Rattle.session.specs.Announcements.{isRts}
-use Rattle.receiver.specs.declared.answer.Message.{Message}
-use Rattle.receiver.specs.declared.answer.Ending.{Ending}
 use Rattle.receiver.specs.declared.answer.Answer.{Answer}
 use Rattle.receiver.specs.declared.answer.Answer.the-variants.{Groups, Opened, Taken, Grant, HandedOver, Aborted, Ended, RefusedRts, Refused}
 use Rattle.receiver.specs.declared.answer.End.{End}
@@ -19,62 +12,14 @@ use Rattle.receiver.specs.declared.answer.End.the-variants as end
 use Rattle.receiver.specs.declared.answer.SlotEnd.{SlotEnd}
 use Rattle.receiver.specs.declared.answer.Kept.{Kept}
 use Rattle.receiver.specs.declared.answer.Kept.the-variants as kept
+use Rattle.text.specs.Ascii.{ascii}
 use Rattle.text.specs.Line.{lineOf}
+use Rattle.session_lines.specs.Lines.{sessionLine, refusedLine, endingLine, messageLines, openWord, tookWord, ctsWord, abortWord, endedWord}
 
--- ---- the words, in ASCII
+-- ---- a Multi-PG frame
 
--- pg
 abbrev pub pgWord : List ℕ
-pgWord = 112 ∷ 103 ∷ []
-
--- open
-abbrev pub openWord : List ℕ
-openWord = 111 ∷ 112 ∷ 101 ∷ 110 ∷ []
-
--- took
-abbrev pub tookWord : List ℕ
-tookWord = 116 ∷ 111 ∷ 111 ∷ 107 ∷ []
-
--- send cts
-abbrev pub ctsWord : List ℕ
-ctsWord = 115 ∷ 101 ∷ 110 ∷ 100 ∷ 32 ∷ 99 ∷ 116 ∷ 115 ∷ []
-
--- send abort
-abbrev pub abortWord : List ℕ
-abortWord = 115 ∷ 101 ∷ 110 ∷ 100 ∷ 32 ∷ 97 ∷ 98 ∷ 111 ∷ 114 ∷ 116 ∷ []
-
--- send eoma
-abbrev pub eomaWord : List ℕ
-eomaWord = 115 ∷ 101 ∷ 110 ∷ 100 ∷ 32 ∷ 101 ∷ 111 ∷ 109 ∷ 97 ∷ []
-
--- msg
-abbrev pub msgWord : List ℕ
-msgWord = 109 ∷ 115 ∷ 103 ∷ []
-
--- ended
-abbrev pub endedWord : List ℕ
-endedWord = 101 ∷ 110 ∷ 100 ∷ 101 ∷ 100 ∷ []
-
--- refused
-abbrev pub refusedWord : List ℕ
-refusedWord = 114 ∷ 101 ∷ 102 ∷ 117 ∷ 115 ∷ 101 ∷ 100 ∷ []
-
--- end
-abbrev pub endWord : List ℕ
-endWord = 101 ∷ 110 ∷ 100 ∷ []
-
--- bad record at
-abbrev pub badWord : List ℕ
-badWord = 98 ∷ 97 ∷ 100 ∷ 32 ∷ 114 ∷ 101 ∷ 99 ∷ 111 ∷ 114 ∷ 100 ∷ 32 ∷ 97 ∷ 116 ∷ []
-
--- ---- lines
-
--- a line that begins with a session's SA and number
-abbrev pub sessionLine : List ℕ → Key → List ℕ → List ℕ
-sessionLine word k ns = lineOf word (k .sa .0 ∷ k .session .0 ∷ ns)
-
-abbrev pub refusedLine : Refusal → List ℕ
-refusedLine n = lineOf refusedWord (numberOf n ∷ [])
+pgWord = ascii "pg"
 
 -- SA and DA are the frame's; the length is that of the group's data
 abbrev pub groupNumbers : ℕ → Group → List ℕ
@@ -88,24 +33,7 @@ unfoldable pub groupLines : ℕ → List Group → List ℕ
 groupLines id [] = []
 groupLines id (g ∷ gs) = groupLine id g ++ groupLines id gs
 
--- an RTS session that a refusal ends sends Abort, a BAM session nothing; the number is 01's, not the wire reason
-abbrev pub endingWord : Kind → List ℕ
-endingWord k = cond (isRts k) abortWord endedWord
-
-abbrev pub endingNumbers : Ending → List ℕ
-endingNumbers e = e .key .sa .0 ∷ e .key .session .0 ∷ numberOf (e .refusal) ∷ []
-
-abbrev pub endingLine : Ending → List ℕ
-endingLine e = lineOf (endingWord (e .kind)) (endingNumbers e)
-
--- the message's bytes follow its length on the line
-abbrev pub messageLine : Message → List ℕ → List ℕ
-messageLine m bytes =
-    lineOf msgWord (m .key .sa .0 ∷ m .key .da .0 ∷ m .key .session .0 ∷ m .pgn ∷ m .total .0 ∷ bytes)
-
--- an RTS session is acknowledged first
-abbrev pub messageLines : Message → List ℕ → List ℕ
-messageLines m bytes = cond (isRts (m .kind)) (sessionLine eomaWord (m .key) []) [] ++ messageLine m bytes
+-- ---- the answer to a frame
 
 -- The lines of the answer to a frame of identifier id and data d; bytes are those of a message handed over.
 unfoldable pub answerLines : ℕ → List ℕ → Answer → List ℕ → List ℕ
@@ -135,6 +63,12 @@ readingLines kept.Kept ends = endsLines ends
 readingLines (kept.Refused n) ends = refusedLine n
 
 -- ---- the end of a run
+
+abbrev pub endWord : List ℕ
+endWord = ascii "end"
+
+abbrev pub badWord : List ℕ
+badWord = ascii "bad record at"
 
 abbrev pub endLine : ℕ → List ℕ
 endLine records = lineOf endWord (records ∷ [])

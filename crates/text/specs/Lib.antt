@@ -2,3 +2,4 @@ pub mod Decimal
 pub mod Put
 pub mod Line
 pub mod Walk
+pub mod Ascii

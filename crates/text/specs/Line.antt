@@ -3,12 +3,12 @@ use Prim.Native.Nat.{ℕ, _+_, _-_, _<_, _≤_}
 use native.Mathlib.Omega.{arith}
 use mathlib.Core.Path.{_≡_, refl, sym, ap, subst, _∙_}
 use mathlib.Core.Bool.{Bool, true, false, cond}
-use mathlib.Core.List.{List, [], _∷_, _++_, append-assoc}
+use mathlib.Core.List.{List, [], _∷_, _++_}
 use lib.Dec.{leb, ltb}
 use lib.ListN.{length, length-append}
 use borrow.Author.Tests.{lt-ltb, le-ltb, ltb-true, ltb-false, le-leb, lt-leb}
 use Rattle.laws.specs.Choice.{then, else}
-use Rattle.text.specs.Decimal.{decimal, widthOf, length-decimal}
+use Rattle.text.specs.Decimal.{decimal}
 use Rattle.text.specs.Put.{put, PutAt, put-same, put-then}
 use Rattle.text.specs.declared.Left.{Left}
 use Rattle.text.specs.declared.Left.the-variants as left

@@ -1,16 +1,10 @@
 use borrow.Author.Needs.{needs}
-use Prim.Native.Nat.{ℕ, _+_, _-_, _≤_}
-use mathlib.Core.Path.{_≡_, refl, sym, ap, subst, _∙_}
-use mathlib.Core.List.{List, [], _∷_}
+use Prim.Native.Nat.{_-_}
+use mathlib.Core.Path.{sym, _∙_}
 use lib.ListN.{length}
 use Rattle.report.proofs.Groups.{Counting, counting-start, counting-end, counting-cut, counting-on, nearer}
 use Rattle.report.proofs.group.left_after_groups.Statement.{statement}
 use Rattle.report.proofs.group.left_after_groups.Tie as tie
-use Rattle.report.proofs.group.left_after_groups.Reads as reads
-use Rattle.report.proofs.group.left_after_groups.Lts as lts
-use Rattle.multi_pg.proofs.Cursor.next.Reads as next-reads
-use Rattle.multi_pg.proofs.Cursor.over.Reads as over-reads
-use Rattle.report.proofs.group.left_after_group.Reads as left-after-group-reads
 
 abbrev Inv-loop : tie.InvT-loop
 Inv-loop room id frame at₀ left₀ at left = Counting frame id room at left
@@ -18,51 +12,39 @@ Inv-loop room id frame at₀ left₀ at left = Counting frame id room at left
 abbrev μ-loop : tie.MeasureT-loop
 μ-loop room id frame at₀ left₀ at left = length frame - at
 
--- src/group.rt:43:9
 over-requires : tie.Need-over-requires Inv-loop μ-loop
 over-requires c κs = search needs
 
--- src/group.rt:46:5
 loop-holds : tie.Need-loop-holds Inv-loop μ-loop
 loop-holds c = counting-start _ _ _ _ (c .over .ensures)
 
--- src/group.rt:48:15
 next-requires : tie.Need-next-requires Inv-loop μ-loop
 next-requires c κs = search needs
 
--- src/group.rt:50:17
 enum-told : tie.Need-enum-told Inv-loop μ-loop
 enum-told c = search needs
 
--- src/group.rt:50:17
 returns : tie.Need-returns Inv-loop μ-loop
 returns c = counting-end _ _ _ _ _ (c .before .before .before .loop .inv) (sym (c .before .before .next .ensures) ∙ c .enum-told .given .1)
 
--- src/group.rt:52:25
 enum-known-group : tie.Need-enum-known-group Inv-loop μ-loop
 enum-known-group c = search needs
 
--- src/group.rt:53:44
 left-after-group-requires : tie.Need-left-after-group-requires Inv-loop μ-loop
 left-after-group-requires c κs = search needs
 
--- src/group.rt:53:34
 enum-known-behind : tie.Need-enum-known-behind Inv-loop μ-loop
 enum-known-behind c = search needs
 
--- src/group.rt:54:21
 enum-told-2 : tie.Need-enum-told-2 Inv-loop μ-loop
 enum-told-2 c = search needs
 
--- src/group.rt:54:21
 returns-2 : tie.Need-returns-2 Inv-loop μ-loop
 returns-2 c = counting-cut _ _ _ _ _ (c .before .before .before .before .before .before .before .loop .inv) _ _ (sym (c .before .before .before .before .before .before .next .ensures) ∙ c .before .before .before .before .group .given .1) (sym (c .before .before .left-after-group .ensures) ∙ c .enum-told2 .given .1)
 
--- src/group.rt:46:5
 loop-less : tie.Need-loop-less Inv-loop μ-loop
 loop-less c = nearer (c .before .before .before .before .before .before .before .before .before .before .before .args .frame .now) (c .before .before .before .before .before .before .before .before .loop .at) _ _ (sym (c .before .before .before .before .before .before .before .next .ensures) ∙ c .before .before .before .before .before .group .given .1)
 
--- src/group.rt:46:5
 loop-again : tie.Need-loop-again Inv-loop μ-loop
 loop-again c = counting-on _ _ _ _ _ (c .before .before .before .before .before .before .before .before .loop .inv) _ _ (sym (c .before .before .before .before .before .before .before .next .ensures) ∙ c .before .before .before .before .before .group .given .1) _ (sym (c .before .before .before .left-after-group .ensures) ∙ c .before .behind .given .1)
 

@@ -6,39 +6,28 @@ use Rattle.report.specs.Lines.{groupLines}
 use borrow.Author.Needs.{needs}
 use Rattle.report.proofs.group.write_groups.Statement.{statement}
 use Rattle.report.proofs.group.write_groups.Tie as tie
-use Rattle.report.proofs.group.write_groups.Reads as reads
-use Rattle.report.proofs.group.write_groups.Lts as lts
-use Rattle.report.proofs.group.left_after_groups.Reads as left-after-groups-reads
-use Rattle.report.proofs.group.put_groups.Reads as put-groups-reads
 
--- src/group.rt:90:9
 returns : tie.Need-returns
 returns c = placed-short (c .before .before .before .args .out .now) (c .before .before .before .args .at) (groupLines (c .before .before .before .args .id) (groupsOf (c .before .before .before .args .frame .now))) (omega (arith, c .if1 .taken))
 
--- src/group.rt:92:27
 left-after-groups-requires : tie.Need-left-after-groups-requires
 left-after-groups-requires c κs = search needs
 
 enum-told : tie.Need-enum-told
 enum-told c = search needs
 
--- src/group.rt:93:9
 enum-told-2 : tie.Need-enum-told-2
 enum-told-2 c = search needs
 
--- src/group.rt:93:9
 returns-2 : tie.Need-returns-2
 returns-2 c = left-cut (c .before .before .before .before .before .before .args .out .now) (c .before .before .before .before .before .before .args .at) (groupLines (c .before .before .before .before .before .before .args .id) (groupsOf (c .before .before .before .before .before .before .args .frame .now))) (c .before .before .before .if1 .left) (sym (c .before .before .left-after-groups .ensures) ∙ c .enum-told2 .given .1)
 
--- src/group.rt:95:20
 put-groups-requires : tie.Need-put-groups-requires
 put-groups-requires c κs = left-room (c .before .before .before .before .before .before .before .args .out .now) (c .before .before .before .before .before .before .before .args .at) (groupLines (c .before .before .before .before .before .before .before .args .id) (groupsOf (c .before .before .before .before .before .before .before .args .frame .now))) (c .before .before .before .before .if1 .left) _ (sym (c .before .before .before .left-after-groups .ensures) ∙ c .before .enum-told .given .1)
 
--- src/group.rt:85:1
 same-length : tie.Need-same-length
 same-length c = search needs
 
--- src/group.rt:85:1
 returns-3 : tie.Need-returns-3
 returns-3 c = placed-put (c .before .before .before .before .before .before .before .before .before .before .args .out .now) (c .before .before .before .before .before .before .before .before .before .before .args .at) (groupLines (c .before .before .before .before .before .before .before .before .before .before .args .id) (groupsOf (c .before .before .before .before .before .before .before .before .before .before .args .frame .now))) (left-room (c .before .before .before .before .before .before .before .before .before .before .args .out .now) (c .before .before .before .before .before .before .before .before .before .before .args .at) (groupLines (c .before .before .before .before .before .before .before .before .before .before .args .id) (groupsOf (c .before .before .before .before .before .before .before .before .before .before .args .frame .now))) (c .before .before .before .before .before .before .before .if1 .left) _ (sym (c .before .before .before .before .before .before .left-after-groups .ensures) ∙ c .before .before .before .before .enum-told .given .1)) _ _ (c .before .before .put-groups .ensures)
 

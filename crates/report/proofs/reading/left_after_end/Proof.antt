@@ -1,7 +1,4 @@
-use Prim.Native.Nat.{ℕ, _+_, _-_, _≤_}
-use native.Mathlib.Omega.{arith}
-use mathlib.Core.Path.{_≡_, refl, sym, ap, subst, _∙_}
-use mathlib.Core.List.{List, [], _∷_}
+use mathlib.Core.Path.{sym, ap, _∙_}
 use lib.ListN.{length}
 use Rattle.receiver.specs.declared.answer.End.{End}
 use Rattle.report.specs.Lines.{endLines}
@@ -9,27 +6,19 @@ use Rattle.text.specs.Line.{leftBy, left-none}
 use borrow.Author.Needs.{needs}
 use Rattle.report.proofs.reading.left_after_end.Statement.{statement}
 use Rattle.report.proofs.reading.left_after_end.Tie as tie
-use Rattle.report.proofs.reading.left_after_end.Reads as reads
-use Rattle.report.proofs.reading.left_after_end.Lts as lts
-use Rattle.report.proofs.reading.left_after_ending.Reads as left-after-ending-reads
 
--- src/reading.rt:51:23
 enum-told : tie.Need-enum-told
 enum-told c = search needs
 
--- src/reading.rt:52:20
 enum-known-end : tie.Need-enum-known-end
 enum-known-end c = search needs
 
--- src/reading.rt:52:31
 left-after-ending-requires : tie.Need-left-after-ending-requires
 left-after-ending-requires c κs = search needs
 
--- src/reading.rt:47:1
 returns : tie.Need-returns
 returns c = left-none _ ∙ ap (λ (e : End). leftBy (c .before .before .args .room) (length (endLines e))) (sym (c .enum-told .given .1))
 
--- src/reading.rt:47:1
 returns-2 : tie.Need-returns-2
 returns-2 c = c .left-after-ending .ensures ∙ ap (λ (e : End). leftBy (c .before .before .before .before .args .room) (length (endLines e))) (sym (c .before .before .end .given .1))
 

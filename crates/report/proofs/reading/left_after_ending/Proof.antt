@@ -1,61 +1,45 @@
-use Prim.Native.Nat.{ℕ, _+_, _-_, _≤_}
-use native.Mathlib.Omega.{arith}
-use mathlib.Core.Path.{_≡_, refl, sym, ap, subst, _∙_}
-use mathlib.Core.List.{List, [], _∷_}
+use Prim.Native.Nat.{ℕ}
+use mathlib.Core.Path.{sym, ap, _∙_}
+use mathlib.Core.List.{List}
 use lib.ListN.{length}
 use Rattle.transport.specs.declared.Kind.{Kind}
 use Rattle.transport.specs.declared.Kind.the-variants.{Rts, Bam}
 use Rattle.text.specs.Line.{lineOf, leftBy}
-use Rattle.report.specs.Lines.{endingWord, endingNumbers}
+use Rattle.session_lines.specs.Lines.{endingWord, endingNumbers}
 use borrow.Author.Needs.{needs}
 use Rattle.report.proofs.reading.left_after_ending.Statement.{statement}
 use Rattle.report.proofs.reading.left_after_ending.Tie as tie
-use Rattle.report.proofs.reading.left_after_ending.Reads as reads
-use Rattle.report.proofs.reading.left_after_ending.Lts as lts
-use Rattle.report.proofs.answer.ending_numbers.Reads as ending-numbers-reads
-use Rattle.text.proofs.line.left_after_plain.Reads as left-after-plain-reads
 
--- src/reading.rt:26:18
 ending-numbers-requires : tie.Need-ending-numbers-requires
 ending-numbers-requires c κs = search needs
 
--- src/reading.rt:28:45
 enum-told : tie.Need-enum-told
 enum-told c = search needs
 
--- src/reading.rt:28:45
 slice-aggregate-left-after-plain : tie.Need-slice-aggregate-left-after-plain
 slice-aggregate-left-after-plain c = search needs
 
--- src/reading.rt:28:60
 slice-aggregate-left-after-plain-2 : tie.Need-slice-aggregate-left-after-plain-2
 slice-aggregate-left-after-plain-2 c = search needs
 
--- src/reading.rt:28:22
 left-after-plain-requires : tie.Need-left-after-plain-requires
 left-after-plain-requires c κs = search needs
 
--- src/reading.rt:29:45
 enum-told-2 : tie.Need-enum-told-2
 enum-told-2 c = search needs
 
--- src/reading.rt:29:45
 slice-aggregate-left-after-plain-3 : tie.Need-slice-aggregate-left-after-plain-3
 slice-aggregate-left-after-plain-3 c = search needs
 
--- src/reading.rt:29:55
 slice-aggregate-left-after-plain-4 : tie.Need-slice-aggregate-left-after-plain-4
 slice-aggregate-left-after-plain-4 c = search needs
 
--- src/reading.rt:29:22
 left-after-plain-requires-2 : tie.Need-left-after-plain-requires-2
 left-after-plain-requires-2 c κs = search needs
 
--- src/reading.rt:22:1
 returns : tie.Need-returns
 returns c = c .left-after-plain .ensures ∙ ap (λ (l : List ℕ). leftBy (c .before .before .before .before .before .before .args .room) (length l)) (sym (ap (λ (k : Kind). lineOf (endingWord k) (endingNumbers (c .before .before .before .before .before .before .args .ending))) (c .before .before .before .enum-told .given .1) ∙ ap (lineOf (endingWord Rts)) (sym (c .before .before .before .before .before .ending-numbers .ensures))))
 
--- src/reading.rt:22:1
 returns-2 : tie.Need-returns-2
 returns-2 c = c .left-after-plain2 .ensures ∙ ap (λ (l : List ℕ). leftBy (c .before .before .before .before .before .before .args .room) (length l)) (sym (ap (λ (k : Kind). lineOf (endingWord k) (endingNumbers (c .before .before .before .before .before .before .args .ending))) (c .before .before .before .enum-told2 .given .1) ∙ ap (lineOf (endingWord Bam)) (sym (c .before .before .before .before .before .ending-numbers .ensures))))
 

@@ -1,19 +1,14 @@
 use Rattle.text.specs.Walk.{count-cut, count-on, count-out}
 use Rattle.report.proofs.Ends.{slotLines, none, no-ends, more-ends}
-use Prim.Native.Nat.{ℕ, _+_, _-_, _≤_}
+use Prim.Native.Nat.{_-_, _≤_}
 use native.Mathlib.Omega.{arith}
-use mathlib.Core.Path.{_≡_, refl, sym, ap, subst, _∙_}
-use mathlib.Core.List.{List, [], _∷_}
-use lib.ListN.{length, getD, drop}
+use mathlib.Core.Path.{_≡_, refl, sym, _∙_}
+use lib.ListN.{length, drop}
 use borrow.Author.Needs.{needs}
 use Rattle.text.specs.Line.{leftBy}
-use Rattle.text.specs.Put.{PutAt, Going, going-start}
-use Rattle.report.specs.Lines.{endLines, endsLines}
+use Rattle.report.specs.Lines.{endsLines}
 use Rattle.report.proofs.reading.left_after_ends.Statement.{statement}
 use Rattle.report.proofs.reading.left_after_ends.Tie as tie
-use Rattle.report.proofs.reading.left_after_ends.Reads as reads
-use Rattle.report.proofs.reading.left_after_ends.Lts as lts
-use Rattle.report.proofs.reading.left_after_end.Reads as left-after-end-reads
 
 abbrev Inv-loop : tie.InvT-loop
 Inv-loop room ends left₀ i₀ left i = (i ≤ 8) × (length ends ≡ 8) × (leftBy left (length (endsLines (drop i ends))) ≡ leftBy room (length (endsLines ends)))
@@ -21,47 +16,36 @@ Inv-loop room ends left₀ i₀ left i = (i ≤ 8) × (length ends ≡ 8) × (le
 abbrev μ-loop : tie.MeasureT-loop
 μ-loop room ends left₀ i₀ left i = 8 - i
 
--- src/reading.rt:73:5
 loop-holds : tie.Need-loop-holds Inv-loop μ-loop
 loop-holds c = (omega arith, search needs, refl)
 
--- src/reading.rt:74:20
 mul-slot : tie.Need-mul-slot Inv-loop μ-loop
 mul-slot c = search needs
 
--- src/reading.rt:74:20
 array-copy-out-slot : tie.Need-array-copy-out-slot Inv-loop μ-loop
 array-copy-out-slot c = search needs
 
--- src/reading.rt:76:36
 left-after-end-requires : tie.Need-left-after-end-requires Inv-loop μ-loop
 left-after-end-requires c κs = search needs
 
--- src/reading.rt:76:26
 enum-known-behind : tie.Need-enum-known-behind Inv-loop μ-loop
 enum-known-behind c = search needs
 
--- src/reading.rt:77:13
 enum-told : tie.Need-enum-told Inv-loop μ-loop
 enum-told c = search needs
 
--- src/reading.rt:77:13
 returns : tie.Need-returns Inv-loop μ-loop
 returns c = count-cut endsLines slotLines no-ends more-ends _ _ _ _ (c .before .before .before .before .before .loop .inv .2) none (omega (arith, c .before .before .before .before .loop-test .taken, c .before .before .before .before .before .loop .inv .1)) (sym (c .before .before .left-after-end .ensures) ∙ c .enum-told .given .1)
 
--- src/reading.rt:80:13
 add-i : tie.Need-add-i Inv-loop μ-loop
 add-i c = search needs
 
--- src/reading.rt:73:5
 loop-less : tie.Need-loop-less Inv-loop μ-loop
 loop-less c = search needs
 
--- src/reading.rt:73:5
 loop-again : tie.Need-loop-again Inv-loop μ-loop
 loop-again c = (omega arith, c .before .before .before .before .before .before .loop .inv .1, count-on endsLines slotLines no-ends more-ends _ _ _ _ (c .before .before .before .before .before .before .loop .inv .2) none (omega (arith, c .before .before .before .before .before .loop-test .taken, c .before .before .before .before .before .before .loop .inv .1)) _ (sym (c .before .before .before .left-after-end .ensures) ∙ c .before .behind .given .1))
 
--- src/reading.rt:68:1
 returns-2 : tie.Need-returns-2 Inv-loop μ-loop
 returns-2 c = count-out endsLines slotLines no-ends more-ends (c .before .before .args .t2) _ _ (c .before .loop .i) (c .before .loop .inv .2) (omega (arith, c .loop-test .left, c .before .loop .inv .1))
 

@@ -1,7 +1,6 @@
-use Prim.Native.Nat.{ℕ, _+_, _-_, _≤_}
+use Prim.Native.Nat.{_+_, _≤_}
 use native.Mathlib.Omega.{arith}
-use mathlib.Core.Path.{_≡_, refl, sym, ap, subst, _∙_}
-use mathlib.Core.List.{List, [], _∷_}
+use mathlib.Core.Path.{sym, subst}
 use lib.ListN.{length}
 use Rattle.receiver.specs.declared.answer.End.{End}
 use Rattle.report.specs.Lines.{endLines}
@@ -9,31 +8,22 @@ use Rattle.text.specs.Put.{PutAt, put-nil}
 use borrow.Author.Needs.{needs}
 use Rattle.report.proofs.reading.put_end.Statement.{statement}
 use Rattle.report.proofs.reading.put_end.Tie as tie
-use Rattle.report.proofs.reading.put_end.Reads as reads
-use Rattle.report.proofs.reading.put_end.Lts as lts
-use Rattle.report.proofs.reading.put_ending.Reads as put-ending-reads
 
--- src/reading.rt:61:23
 enum-told : tie.Need-enum-told
 enum-told c = search needs
 
--- src/reading.rt:62:20
 enum-known-end : tie.Need-enum-known-end
 enum-known-end c = search needs
 
--- src/reading.rt:62:31
 put-ending-requires : tie.Need-put-ending-requires
 put-ending-requires c κs = subst (λ (e : End). c .before .before .before .before .before .args .at + length (endLines e) ≤ length (c .before .before .before .before .before .args .out .now)) (c .before .before .end .given .1) (c .before .before .before .before .before .pre)
 
--- src/reading.rt:56:1
 returns : tie.Need-returns
 returns c = subst (λ (e : End). PutAt (c .before .before .before .args .out .now) (c .before .before .before .args .at) (endLines e) (c .before .before .before .args .at) (c .before .before .before .args .out .now)) (sym (c .enum-told .given .1)) (record { place = omega arith; bytes = sym (put-nil _ _) })
 
--- src/reading.rt:56:1
 same-length : tie.Need-same-length
 same-length c = search needs
 
--- src/reading.rt:56:1
 returns-2 : tie.Need-returns-2
 returns-2 c = subst (λ (e : End). PutAt (c .before .before .before .before .before .before .before .before .args .out .now) (c .before .before .before .before .before .before .before .before .args .at) (endLines e) (c .before .before .put-ending .result) (c .before .before .put-ending .last .0)) (sym (c .before .before .before .before .before .end .given .1)) (c .before .before .put-ending .ensures)
 

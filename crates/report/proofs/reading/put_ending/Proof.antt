@@ -1,70 +1,52 @@
-use Prim.Native.Nat.{ℕ, _+_, _-_, _≤_}
-use native.Mathlib.Omega.{arith}
-use mathlib.Core.Path.{_≡_, refl, sym, ap, subst, _∙_}
-use mathlib.Core.List.{List, [], _∷_}
+use Prim.Native.Nat.{ℕ, _+_, _≤_}
+use mathlib.Core.Path.{sym, ap, subst, _∙_}
+use mathlib.Core.List.{List}
 use lib.ListN.{length}
 use Rattle.transport.specs.declared.Kind.{Kind}
 use Rattle.transport.specs.declared.Kind.the-variants.{Rts, Bam}
 use Rattle.text.specs.Line.{lineOf}
 use Rattle.text.specs.Put.{PutAt}
-use Rattle.report.specs.Lines.{endingWord, endingNumbers}
+use Rattle.session_lines.specs.Lines.{endingWord, endingNumbers}
 use borrow.Author.Needs.{needs}
 use Rattle.report.proofs.reading.put_ending.Statement.{statement}
 use Rattle.report.proofs.reading.put_ending.Tie as tie
-use Rattle.report.proofs.reading.put_ending.Reads as reads
-use Rattle.report.proofs.reading.put_ending.Lts as lts
-use Rattle.report.proofs.answer.ending_numbers.Reads as ending-numbers-reads
-use Rattle.text.proofs.line.put_plain.Reads as put-plain-reads
 
--- src/reading.rt:38:18
 ending-numbers-requires : tie.Need-ending-numbers-requires
 ending-numbers-requires c κs = search needs
 
--- src/reading.rt:40:32
 enum-told : tie.Need-enum-told
 enum-told c = search needs
 
--- src/reading.rt:40:41
 slice-aggregate-put-plain : tie.Need-slice-aggregate-put-plain
 slice-aggregate-put-plain c = search needs
 
--- src/reading.rt:40:56
 slice-aggregate-put-plain-2 : tie.Need-slice-aggregate-put-plain-2
 slice-aggregate-put-plain-2 c = search needs
 
--- src/reading.rt:40:22
 put-plain-requires : tie.Need-put-plain-requires
 put-plain-requires c κs = subst (λ (l : List ℕ). c .before .before .before .before .before .before .before .args .at + length l ≤ length (c .before .before .before .before .before .before .before .args .out .now)) (ap (λ (k : Kind). lineOf (endingWord k) (endingNumbers (c .before .before .before .before .before .before .before .args .ending))) (c .before .before .before .enum-told .given .1) ∙ ap (lineOf (endingWord Rts)) (sym (c .before .before .before .before .before .ending-numbers .ensures))) (c .before .before .before .before .before .before .before .pre)
 
--- src/reading.rt:41:32
 enum-told-2 : tie.Need-enum-told-2
 enum-told-2 c = search needs
 
--- src/reading.rt:41:41
 slice-aggregate-put-plain-3 : tie.Need-slice-aggregate-put-plain-3
 slice-aggregate-put-plain-3 c = search needs
 
--- src/reading.rt:41:51
 slice-aggregate-put-plain-4 : tie.Need-slice-aggregate-put-plain-4
 slice-aggregate-put-plain-4 c = search needs
 
--- src/reading.rt:41:22
 put-plain-requires-2 : tie.Need-put-plain-requires-2
 put-plain-requires-2 c κs = subst (λ (l : List ℕ). c .before .before .before .before .before .before .before .args .at + length l ≤ length (c .before .before .before .before .before .before .before .args .out .now)) (ap (λ (k : Kind). lineOf (endingWord k) (endingNumbers (c .before .before .before .before .before .before .before .args .ending))) (c .before .before .before .enum-told2 .given .1) ∙ ap (lineOf (endingWord Bam)) (sym (c .before .before .before .before .before .ending-numbers .ensures))) (c .before .before .before .before .before .before .before .pre)
 
--- src/reading.rt:33:1
 same-length : tie.Need-same-length
 same-length c = search needs
 
--- src/reading.rt:33:1
 returns : tie.Need-returns
 returns c = subst (λ (l : List ℕ). PutAt (c .before .before .before .before .before .before .before .before .before .before .args .out .now) (c .before .before .before .before .before .before .before .before .before .before .args .at) l (c .before .before .put-plain .result) (c .before .before .put-plain .last .0)) (sym (ap (λ (k : Kind). lineOf (endingWord k) (endingNumbers (c .before .before .before .before .before .before .before .before .before .before .args .ending))) (c .before .before .before .before .before .before .enum-told .given .1) ∙ ap (lineOf (endingWord Rts)) (sym (c .before .before .before .before .before .before .before .before .ending-numbers .ensures)))) (c .before .before .put-plain .ensures)
 
--- src/reading.rt:33:1
 same-length-2 : tie.Need-same-length-2
 same-length-2 c = search needs
 
--- src/reading.rt:33:1
 returns-2 : tie.Need-returns-2
 returns-2 c = subst (λ (l : List ℕ). PutAt (c .before .before .before .before .before .before .before .before .before .before .args .out .now) (c .before .before .before .before .before .before .before .before .before .before .args .at) l (c .before .before .put-plain2 .result) (c .before .before .put-plain2 .last .0)) (sym (ap (λ (k : Kind). lineOf (endingWord k) (endingNumbers (c .before .before .before .before .before .before .before .before .before .before .args .ending))) (c .before .before .before .before .before .before .enum-told2 .given .1) ∙ ap (lineOf (endingWord Bam)) (sym (c .before .before .before .before .before .before .before .before .ending-numbers .ensures)))) (c .before .before .put-plain2 .ensures)
 

@@ -1,19 +1,14 @@
 use Rattle.text.specs.Walk.{walk-room, walk-on, walk-out}
 use Rattle.report.proofs.Ends.{slotLines, none, no-ends, more-ends}
-use Prim.Native.Nat.{ℕ, _+_, _-_, _≤_}
+use Prim.Native.Nat.{_-_, _≤_}
 use native.Mathlib.Omega.{arith}
-use mathlib.Core.Path.{_≡_, refl, sym, ap, subst, _∙_}
-use mathlib.Core.List.{List, [], _∷_}
-use lib.ListN.{length, getD, drop}
+use mathlib.Core.Path.{_≡_}
+use lib.ListN.{length, drop}
 use borrow.Author.Needs.{needs}
-use Rattle.text.specs.Line.{leftBy}
-use Rattle.text.specs.Put.{PutAt, Going, going-start}
-use Rattle.report.specs.Lines.{endLines, endsLines}
+use Rattle.text.specs.Put.{Going, going-start}
+use Rattle.report.specs.Lines.{endsLines}
 use Rattle.report.proofs.reading.put_ends.Statement.{statement}
 use Rattle.report.proofs.reading.put_ends.Tie as tie
-use Rattle.report.proofs.reading.put_ends.Reads as reads
-use Rattle.report.proofs.reading.put_ends.Lts as lts
-use Rattle.report.proofs.reading.put_end.Reads as put-end-reads
 
 abbrev Inv-loop : tie.InvT-loop
 Inv-loop out₀ at ends next₀ i₀ out next i = (i ≤ 8) × (length ends ≡ 8) × Going out₀ at (endsLines ends) out next (endsLines (drop i ends))
@@ -21,39 +16,30 @@ Inv-loop out₀ at ends next₀ i₀ out next i = (i ≤ 8) × (length ends ≡ 
 abbrev μ-loop : tie.MeasureT-loop
 μ-loop out₀ at ends next₀ i₀ out next i = 8 - i
 
--- src/reading.rt:91:5
 loop-holds : tie.Need-loop-holds Inv-loop μ-loop
 loop-holds c = (omega arith, search needs, going-start _ _ _)
 
--- src/reading.rt:92:20
 mul-slot : tie.Need-mul-slot Inv-loop μ-loop
 mul-slot c = search needs
 
--- src/reading.rt:92:20
 array-copy-out-slot : tie.Need-array-copy-out-slot Inv-loop μ-loop
 array-copy-out-slot c = search needs
 
--- src/reading.rt:94:9
 put-end-requires : tie.Need-put-end-requires Inv-loop μ-loop
 put-end-requires c κs = walk-room endsLines slotLines no-ends more-ends _ _ _ (c .before .before .before .before .before .pre) _ _ _ (c .before .before .before .loop .inv .2) none (omega (arith, c .before .before .loop-test .taken, c .before .before .before .loop .inv .1))
 
--- src/reading.rt:95:13
 add-i : tie.Need-add-i Inv-loop μ-loop
 add-i c = search needs
 
--- src/reading.rt:91:5
 loop-less : tie.Need-loop-less Inv-loop μ-loop
 loop-less c = search needs
 
--- src/reading.rt:91:5
 loop-again : tie.Need-loop-again Inv-loop μ-loop
 loop-again c = (omega arith, c .before .before .before .before .before .before .loop .inv .1, walk-on endsLines slotLines no-ends more-ends _ _ _ (c .before .before .before .before .before .before .before .before .pre) _ _ _ (c .before .before .before .before .before .before .loop .inv .2) none (omega (arith, c .before .before .before .before .before .loop-test .taken, c .before .before .before .before .before .before .loop .inv .1)) _ _ (c .before .before .put-end .ensures))
 
--- src/reading.rt:85:1
 same-length : tie.Need-same-length Inv-loop μ-loop
 same-length c = c .before .loop .inv .2 .same
 
--- src/reading.rt:85:1
 returns : tie.Need-returns Inv-loop μ-loop
 returns c = walk-out endsLines slotLines no-ends more-ends _ _ (c .before .before .before .args .t3) (c .before .before .before .pre) _ _ (c .before .loop .i) (c .before .loop .inv .2) (omega (arith, c .loop-test .left, c .before .loop .inv .1))
 

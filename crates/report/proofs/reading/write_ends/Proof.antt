@@ -5,39 +5,28 @@ use Rattle.report.specs.Lines.{endsLines}
 use borrow.Author.Needs.{needs}
 use Rattle.report.proofs.reading.write_ends.Statement.{statement}
 use Rattle.report.proofs.reading.write_ends.Tie as tie
-use Rattle.report.proofs.reading.write_ends.Reads as reads
-use Rattle.report.proofs.reading.write_ends.Lts as lts
-use Rattle.report.proofs.reading.left_after_ends.Reads as left-after-ends-reads
-use Rattle.report.proofs.reading.put_ends.Reads as put-ends-reads
 
--- src/reading.rt:105:9
 returns : tie.Need-returns
 returns c = placed-short (c .before .before .args .out .now) (c .before .before .args .at) (endsLines (c .before .before .args .ends)) (omega (arith, c .if1 .taken))
 
--- src/reading.rt:107:27
 left-after-ends-requires : tie.Need-left-after-ends-requires
 left-after-ends-requires c κs = search needs
 
 enum-told : tie.Need-enum-told
 enum-told c = search needs
 
--- src/reading.rt:108:9
 enum-told-2 : tie.Need-enum-told-2
 enum-told-2 c = search needs
 
--- src/reading.rt:108:9
 returns-2 : tie.Need-returns-2
 returns-2 c = left-cut (c .before .before .before .before .before .args .out .now) (c .before .before .before .before .before .args .at) (endsLines (c .before .before .before .before .before .args .ends)) (c .before .before .before .if1 .left) (sym (c .before .before .left-after-ends .ensures) ∙ c .enum-told2 .given .1)
 
--- src/reading.rt:110:20
 put-ends-requires : tie.Need-put-ends-requires
 put-ends-requires c κs = left-room (c .before .before .before .before .before .before .args .out .now) (c .before .before .before .before .before .before .args .at) (endsLines (c .before .before .before .before .before .before .args .ends)) (c .before .before .before .before .if1 .left) _ (sym (c .before .before .before .left-after-ends .ensures) ∙ c .before .enum-told .given .1)
 
--- src/reading.rt:100:1
 same-length : tie.Need-same-length
 same-length c = search needs
 
--- src/reading.rt:100:1
 returns-3 : tie.Need-returns-3
 returns-3 c = placed-put (c .before .before .before .before .before .before .before .before .before .args .out .now) (c .before .before .before .before .before .before .before .before .before .args .at) (endsLines (c .before .before .before .before .before .before .before .before .before .args .ends)) (left-room (c .before .before .before .before .before .before .before .before .before .args .out .now) (c .before .before .before .before .before .before .before .before .before .args .at) (endsLines (c .before .before .before .before .before .before .before .before .before .args .ends)) (c .before .before .before .before .before .before .before .if1 .left) _ (sym (c .before .before .before .before .before .before .left-after-ends .ensures) ∙ c .before .before .before .before .enum-told .given .1)) _ _ (c .before .before .put-ends .ensures)
 

@@ -5,40 +5,28 @@ use Rattle.report.specs.Lines.{readingLines}
 use borrow.Author.Needs.{needs}
 use Rattle.report.proofs.reading.write_reading.Statement.{statement}
 use Rattle.report.proofs.reading.write_reading.Tie as tie
-use Rattle.report.proofs.reading.write_reading.Reads as reads
-use Rattle.report.proofs.reading.write_reading.Lts as lts
-use Rattle.report.proofs.answer.write_refused.Reads as write-refused-reads
-use Rattle.report.proofs.reading.write_ends.Reads as write-ends-reads
 
--- src/reading.rt:118:34
 enum-told : tie.Need-enum-told
 enum-told c = search needs
 
--- src/reading.rt:118:23
 write-ends-requires : tie.Need-write-ends-requires
 write-ends-requires c κs = search needs
 
--- src/reading.rt:119:23
 enum-known-answer : tie.Need-enum-known-answer
 enum-known-answer c = search needs
 
--- src/reading.rt:119:35
 write-refused-requires : tie.Need-write-refused-requires
 write-refused-requires c κs = search needs
 
--- src/reading.rt:114:1
 same-length : tie.Need-same-length
 same-length c = search needs
 
--- src/reading.rt:114:1
 returns : tie.Need-returns
 returns c = placed-by (ap (λ (k : Kept). readingLines k (c .before .before .before .before .before .before .before .args .ends)) (c .before .before .before .before .enum-told .given .1)) (c .before .before .write-ends .ensures)
 
--- src/reading.rt:114:1
 same-length-2 : tie.Need-same-length-2
 same-length-2 c = search needs
 
--- src/reading.rt:114:1
 returns-2 : tie.Need-returns-2
 returns-2 c = placed-by (ap (λ (k : Kept). readingLines k (c .before .before .before .before .before .before .before .before .args .ends)) (c .before .before .before .before .before .answer .given .1)) (c .before .before .write-refused .ensures)
 

@@ -1,24 +1,16 @@
-use borrow.Author.Needs.{needs}
-use Prim.Native.Nat.{ℕ, _+_, _≤_}
 use native.Mathlib.Omega.{arith}
-use mathlib.Core.Path.{_≡_, sym, ap, subst, _∙_}
-use mathlib.Core.List.{List}
-use lib.ListN.{length, length-set}
-use Rattle.text.specs.Decimal.{decimal, widthOf, length-decimal, decimal-small, decimal-two, decimal-three}
+use mathlib.Core.Path.{sym, ap, _∙_}
+use lib.ListN.{length}
+use Rattle.text.specs.Decimal.{length-decimal, decimal-small, decimal-two, decimal-three}
 use Rattle.text.proofs.decimal.octet_width.Statement.{statement}
 use Rattle.text.proofs.decimal.octet_width.Tie as tie
-use Rattle.text.proofs.decimal.octet_width.Reads as reads
-use Rattle.text.proofs.decimal.octet_width.Lts as lts
 
--- src/decimal.rt:43:9
 returns : tie.Need-returns
 returns c = sym (ap length (decimal-small _ (c .if1 .taken))) ∙ length-decimal (c .before .args .n)
 
--- src/decimal.rt:46:9
 returns-2 : tie.Need-returns-2
 returns-2 c = sym (ap length (decimal-two _ (c .before .if1 .left) (c .if2 .taken))) ∙ length-decimal (c .before .before .args .n)
 
--- src/decimal.rt:39:1
 returns-3 : tie.Need-returns-3
 returns-3 c = sym (ap length (decimal-three _ (c .if2 .left) (omega (arith, c .before .before .fits .n)))) ∙ length-decimal (c .before .before .args .n)
 

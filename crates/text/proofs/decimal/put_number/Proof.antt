@@ -1,18 +1,14 @@
 use Prim.Native.Nat.{ℕ, suc, _+_, _-_, _%_, _/_, _≤_, _<_}
-use native.Mathlib.Numerals.{add-one}
 use native.Mathlib.Omega.{arith}
-use mathlib.Core.Path.{_≡_, refl, sym, ap, _∙_}
+use mathlib.Core.Path.{_≡_, sym, ap, _∙_}
 use mathlib.Core.List.{List, [], _∷_, _++_, append-assoc, append-nil}
-use lib.ListN.{length, set, drop, length-drop, length-set}
+use lib.ListN.{length, set, drop, length-drop}
 use lib.Seq.{drop-at, drop-length}
 use borrow.Author.Needs.{needs}
 use Rattle.text.specs.Decimal.{widthOf, decimal, digitsOf, length-decimal, length-digits}
 use Rattle.text.specs.Put.{put, PutAt, put-nil, put-before, length-put}
 use Rattle.text.proofs.decimal.put_number.Statement.{statement}
 use Rattle.text.proofs.decimal.put_number.Tie as tie
-use Rattle.text.proofs.decimal.put_number.Reads as reads
-use Rattle.text.proofs.decimal.put_number.Lts as lts
-use Rattle.text.proofs.decimal.width.Reads as width-reads
 
 -- In a turn with i next: the digits behind i are in place, and those before it are those of what is left.
 record Writing (d : List ℕ) (at n end : ℕ) (out : List ℕ) (left i : ℕ) : Type 0 where
@@ -95,47 +91,36 @@ Inv-loop out₀ at n end left₀ i₀ out left i = Writing out₀ at n end out l
 abbrev μ-loop : tie.MeasureT-loop
 μ-loop out₀ at n end left₀ i₀ out left i = i
 
--- src/decimal.rt:26:20
 width-requires : tie.Need-width-requires Inv-loop μ-loop
 width-requires c κs = search needs
 
--- src/decimal.rt:26:15
 add-end : tie.Need-add-end Inv-loop μ-loop
 add-end c = omega (arith, length-decimal (c .before .before .args .n))
 
--- src/decimal.rt:29:5
 loop-holds : tie.Need-loop-holds Inv-loop μ-loop
 loop-holds c = begins _ _ _ _ (ap (λ (k : ℕ). c .before .before .args .at + k) (c .width .ensures)) (c .before .before .pre)
 
--- src/decimal.rt:30:13
 sub-i : tie.Need-sub-i Inv-loop μ-loop
 sub-i c = omega arith
 
--- src/decimal.rt:31:19
 add-out : tie.Need-add-out Inv-loop μ-loop
 add-out c = omega arith
 
--- src/decimal.rt:31:18
 cast-out : tie.Need-cast-out Inv-loop μ-loop
 cast-out c = omega arith
 
--- src/decimal.rt:31:9
 slice-write-out : tie.Need-slice-write-out Inv-loop μ-loop
 slice-write-out c = omega (arith, keeps _ _ _ _ _ _ _ (c .before .loop .inv))
 
--- src/decimal.rt:29:5
 loop-less : tie.Need-loop-less Inv-loop μ-loop
 loop-less c = omega arith
 
--- src/decimal.rt:29:5
 loop-again : tie.Need-loop-again Inv-loop μ-loop
 loop-again c = goes _ _ _ _ _ _ _ (c .before .loop .inv) (c .loop-test .taken)
 
--- src/decimal.rt:22:1
 same-length : tie.Need-same-length Inv-loop μ-loop
 same-length c = keeps _ _ _ _ _ _ _ (c .before .loop .inv)
 
--- src/decimal.rt:22:1
 returns : tie.Need-returns Inv-loop μ-loop
 returns c = ended _ _ _ _ _ _ _ (c .before .loop .inv) (c .loop-test .left)
 

@@ -6,19 +6,13 @@ use Rattle.text.specs.Line.{lineOf, leftBy}
 use borrow.Author.Needs.{needs}
 use Rattle.text.proofs.line.left_after_plain.Statement.{statement}
 use Rattle.text.proofs.line.left_after_plain.Tie as tie
-use Rattle.text.proofs.line.left_after_plain.Reads as reads
-use Rattle.text.proofs.line.left_after_plain.Lts as lts
-use Rattle.text.proofs.line.left_after_line.Reads as left-after-line-reads
 
--- src/line.rt:150:41
 slice-aggregate-left-after-line : tie.Need-slice-aggregate-left-after-line
 slice-aggregate-left-after-line c = search needs
 
--- src/line.rt:150:5
 left-after-line-requires : tie.Need-left-after-line-requires
 left-after-line-requires c κs = search needs
 
--- src/line.rt:147:1
 returns : tie.Need-returns
 returns c = c .left-after-line .ensures ∙ ap (λ (ns : List ℕ). leftBy (c .before .before .before .before .args .room) (length (lineOf (c .before .before .before .before .args .word .now) ns))) (append-nil (c .before .before .before .before .args .fields .now))
 

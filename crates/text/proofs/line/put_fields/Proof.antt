@@ -1,17 +1,13 @@
 use borrow.Author.Needs.{needs}
-use Prim.Native.Nat.{ℕ, _+_, _-_, _≤_}
+use Prim.Native.Nat.{_-_, _≤_}
 use native.Mathlib.Omega.{arith}
-use mathlib.Core.Path.{_≡_, refl, sym, ap, subst, _∙_}
-use lib.ListN.{length, getD, drop}
-use Rattle.text.specs.Put.{PutAt, Going, going-start}
+use lib.ListN.{length, drop}
+use Rattle.text.specs.Put.{Going, going-start}
 use Rattle.text.specs.Line.{numbers, spaced}
 use Rattle.text.specs.Walk.{walk-room, walk-on, walk-out}
-use Rattle.text.proofs.Loops.{no-numbers, more-numbers}
+use Rattle.text.proofs.Parts.{no-numbers, more-numbers}
 use Rattle.text.proofs.line.put_fields.Statement.{statement}
 use Rattle.text.proofs.line.put_fields.Tie as tie
-use Rattle.text.proofs.line.put_fields.Reads as reads
-use Rattle.text.proofs.line.put_fields.Lts as lts
-use Rattle.text.proofs.line.put_spaced.Reads as put-spaced-reads
 
 abbrev Inv-loop : tie.InvT-loop
 Inv-loop out₀ at fields place₀ i₀ out place i = (i ≤ length fields) × Going out₀ at (numbers fields) out place (numbers (drop i fields))
@@ -19,39 +15,30 @@ Inv-loop out₀ at fields place₀ i₀ out place i = (i ≤ length fields) × G
 abbrev μ-loop : tie.MeasureT-loop
 μ-loop out₀ at fields place₀ i₀ out place i = length fields - i
 
--- src/line.rt:49:5
 loop-holds : tie.Need-loop-holds Inv-loop μ-loop
 loop-holds c = (omega arith, going-start _ _ _)
 
--- src/line.rt:50:40
 mul-put-spaced : tie.Need-mul-put-spaced Inv-loop μ-loop
 mul-put-spaced c = search needs
 
--- src/line.rt:50:40
 shared-slice-read-put-spaced : tie.Need-shared-slice-read-put-spaced Inv-loop μ-loop
 shared-slice-read-put-spaced c = search needs
 
--- src/line.rt:50:9
 put-spaced-requires : tie.Need-put-spaced-requires Inv-loop μ-loop
 put-spaced-requires c κs = walk-room numbers spaced no-numbers more-numbers _ _ _ (c .before .before .before .before .before .before .pre) _ _ _ (c .before .before .before .loop .inv .1) 0 (c .before .before .loop-test .taken)
 
--- src/line.rt:51:13
 add-i : tie.Need-add-i Inv-loop μ-loop
 add-i c = search needs
 
--- src/line.rt:49:5
 loop-less : tie.Need-loop-less Inv-loop μ-loop
 loop-less c = search needs
 
--- src/line.rt:49:5
 loop-again : tie.Need-loop-again Inv-loop μ-loop
 loop-again c = (omega arith, walk-on numbers spaced no-numbers more-numbers _ _ _ (c .before .before .before .before .before .before .before .before .before .pre) _ _ _ (c .before .before .before .before .before .before .loop .inv .1) 0 (c .before .before .before .before .before .loop-test .taken) _ _ (c .before .before .put-spaced .ensures))
 
--- src/line.rt:43:1
 same-length : tie.Need-same-length Inv-loop μ-loop
 same-length c = search needs
 
--- src/line.rt:43:1
 returns : tie.Need-returns Inv-loop μ-loop
 returns c = walk-out numbers spaced no-numbers more-numbers _ _ _ (c .before .before .before .before .pre) _ _ _ (c .before .loop .inv .1) (c .loop-test .left)
 

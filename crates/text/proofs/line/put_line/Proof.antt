@@ -1,43 +1,27 @@
-use borrow.Author.Needs.{needs}
-use Prim.Native.Nat.{ℕ, _+_, _-_, _≤_}
 use native.Mathlib.Omega.{arith}
-use mathlib.Core.Path.{_≡_, refl, sym, ap, subst, _∙_}
-use lib.ListN.{length}
-use Rattle.text.proofs.Loops.{text-room, fields-room, octets-room, feed-room, line-put}
+use Rattle.text.proofs.Parts.{text-room, fields-room, octets-room, feed-room, line-put}
 use Rattle.text.specs.Put.{put-same}
 use Rattle.text.proofs.line.put_line.Statement.{statement}
 use Rattle.text.proofs.line.put_line.Tie as tie
-use Rattle.text.proofs.line.put_line.Reads as reads
-use Rattle.text.proofs.line.put_line.Lts as lts
-use Rattle.text.proofs.line.put_fields.Reads as put-fields-reads
-use Rattle.text.proofs.line.put_octets.Reads as put-octets-reads
-use Rattle.text.proofs.line.put_text.Reads as put-text-reads
 
--- src/line.rt:124:9
 put-text-requires : tie.Need-put-text-requires
 put-text-requires c κs = text-room (c .before .before .before .before .before .args .word .now) (c .before .before .before .before .before .args .fields .now) (c .before .before .before .before .before .args .octets .now) (c .before .before .before .before .before .args .out .now) _ (c .before .before .before .before .before .pre)
 
--- src/line.rt:125:9
 put-fields-requires : tie.Need-put-fields-requires
 put-fields-requires c κs = fields-room _ _ _ _ _ (c .before .before .before .before .before .before .before .before .before .pre) _ _ (c .before .before .before .put-text .ensures)
 
--- src/line.rt:126:9
 put-octets-requires : tie.Need-put-octets-requires
 put-octets-requires c κs = octets-room _ _ _ _ _ (c .before .before .before .before .before .before .before .before .before .before .before .before .before .pre) _ _ (c .before .before .before .before .before .before .before .put-text .ensures) _ _ (c .before .before .before .put-fields .ensures)
 
--- src/line.rt:127:5
 slice-write-out : tie.Need-slice-write-out
 slice-write-out c = feed-room _ _ _ _ _ (c .before .before .before .before .before .before .before .before .before .before .before .before .before .before .before .before .pre) _ _ (c .before .before .before .before .before .before .before .before .before .before .put-text .ensures) _ _ (c .before .before .before .before .before .before .put-fields .ensures) _ _ (c .before .before .put-octets .ensures)
 
--- src/line.rt:128:5
 add-result : tie.Need-add-result
 add-result c = let h = line-put _ _ _ _ _ (c .before .before .before .before .before .before .before .before .before .before .before .before .before .before .before .before .pre) _ _ (c .before .before .before .before .before .before .before .before .before .before .put-text .ensures) _ _ (c .before .before .before .before .before .before .put-fields .ensures) _ _ (c .before .before .put-octets .ensures) .place in omega (arith, h, c .before .before .before .before .before .before .before .before .before .before .before .before .before .before .before .before .pre, c .before .before .before .before .before .before .before .before .before .before .before .before .before .before .before .before .good .0 .0)
 
--- src/line.rt:120:1
 same-length : tie.Need-same-length
 same-length c = put-same _ _ _ _ _ (c .before .before .before .before .before .before .before .before .before .before .before .before .before .before .before .before .pre) (line-put _ _ _ _ _ (c .before .before .before .before .before .before .before .before .before .before .before .before .before .before .before .before .pre) _ _ (c .before .before .before .before .before .before .before .before .before .before .put-text .ensures) _ _ (c .before .before .before .before .before .before .put-fields .ensures) _ _ (c .before .before .put-octets .ensures))
 
--- src/line.rt:120:1
 returns : tie.Need-returns
 returns c = line-put _ _ _ _ _ (c .before .before .before .before .before .before .before .before .before .before .before .before .before .before .before .before .pre) _ _ (c .before .before .before .before .before .before .before .before .before .before .put-text .ensures) _ _ (c .before .before .before .before .before .before .put-fields .ensures) _ _ (c .before .before .put-octets .ensures)
 

@@ -7,23 +7,16 @@ use Rattle.text.specs.Line.{lineOf}
 use borrow.Author.Needs.{needs}
 use Rattle.text.proofs.line.put_plain.Statement.{statement}
 use Rattle.text.proofs.line.put_plain.Tie as tie
-use Rattle.text.proofs.line.put_plain.Reads as reads
-use Rattle.text.proofs.line.put_plain.Lts as lts
-use Rattle.text.proofs.line.put_line.Reads as put-line-reads
 
--- src/line.rt:157:37
 slice-aggregate-put-line : tie.Need-slice-aggregate-put-line
 slice-aggregate-put-line c = search needs
 
--- src/line.rt:157:5
 put-line-requires : tie.Need-put-line-requires
 put-line-requires c κs = subst (λ (ns : List ℕ). c .before .before .before .before .before .args .at + length (lineOf (c .before .before .before .before .before .args .word .now) ns) ≤ length (c .before .before .before .before .before .args .out .now)) (sym (append-nil (c .before .before .before .before .before .args .fields .now))) (c .before .before .before .before .before .pre)
 
--- src/line.rt:153:1
 same-length : tie.Need-same-length
 same-length c = search needs
 
--- src/line.rt:153:1
 returns : tie.Need-returns
 returns c = subst (λ (ns : List ℕ). PutAt (c .before .before .before .before .before .before .before .before .args .out .now) (c .before .before .before .before .before .before .before .before .args .at) (lineOf (c .before .before .before .before .before .before .before .before .args .word .now) ns) (c .before .before .put-line .result) (c .before .before .put-line .last .0)) (append-nil (c .before .before .before .before .before .before .before .before .args .fields .now)) (c .before .before .put-line .ensures)
 

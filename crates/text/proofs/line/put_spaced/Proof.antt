@@ -1,38 +1,28 @@
-use Prim.Native.Nat.{ℕ, suc, _+_, _≤_}
 use native.Mathlib.Omega.{arith}
-use mathlib.Core.Path.{_≡_, refl, sym, ap, subst, _∙_}
-use mathlib.Core.List.{List, [], _∷_}
-use lib.ListN.{length, length-set}
-use Rattle.text.specs.Decimal.{decimal}
-use Rattle.text.specs.Put.{PutAt, put-set, put-then, put-same}
+use mathlib.Core.Path.{_∙_}
+use mathlib.Core.List.{[], _∷_}
+use lib.ListN.{length-set}
+use Rattle.text.specs.Put.{put-set, put-then}
 use Rattle.text.specs.Line.{spaced}
 use borrow.Author.Needs.{needs}
 use Rattle.text.proofs.line.put_spaced.Statement.{statement}
 use Rattle.text.proofs.line.put_spaced.Tie as tie
-use Rattle.text.proofs.line.put_spaced.Reads as reads
-use Rattle.text.proofs.line.put_spaced.Lts as lts
-use Rattle.text.proofs.decimal.put_number.Reads as put-number-reads
 
--- src/line.rt:39:5
 slice-write-out : tie.Need-slice-write-out
 unfolding spaced
 slice-write-out c = omega (arith, c .before .pre)
 
--- src/line.rt:40:21
 add-put-number : tie.Need-add-put-number
 add-put-number c = search needs
 
--- src/line.rt:40:5
 put-number-requires : tie.Need-put-number-requires
 unfolding spaced
 put-number-requires c κs = simp length-set (omega (arith, c .before .before .pre))
 
--- src/line.rt:35:1
 same-length : tie.Need-same-length
 unfolding spaced
 same-length c = c .before .before .put-number .kept .0 ∙ simp length-set
 
--- src/line.rt:35:1
 returns : tie.Need-returns
 unfolding spaced
 returns c = put-then _ _ (32 ∷ []) _ _ (omega arith) (put-set _ _ 32 (omega arith)) _ _ _ (c .before .before .put-number .ensures)

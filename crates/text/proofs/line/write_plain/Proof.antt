@@ -1,27 +1,20 @@
 use Prim.Native.Nat.{ℕ}
-use mathlib.Core.Path.{ap, subst}
+use mathlib.Core.Path.{subst}
 use mathlib.Core.List.{List, append-nil}
 use Rattle.text.specs.Line.{lineOf, Placed}
 use borrow.Author.Needs.{needs}
 use Rattle.text.proofs.line.write_plain.Statement.{statement}
 use Rattle.text.proofs.line.write_plain.Tie as tie
-use Rattle.text.proofs.line.write_plain.Reads as reads
-use Rattle.text.proofs.line.write_plain.Lts as lts
-use Rattle.text.proofs.line.write_line.Reads as write-line-reads
 
--- src/line.rt:149:39
 slice-aggregate-write-line : tie.Need-slice-aggregate-write-line
 slice-aggregate-write-line c = search needs
 
--- src/line.rt:149:5
 write-line-requires : tie.Need-write-line-requires
 write-line-requires c κs = search needs
 
--- src/line.rt:146:1
 same-length : tie.Need-same-length
 same-length c = search needs
 
--- src/line.rt:146:1
 returns : tie.Need-returns
 returns c = subst (λ (ns : List ℕ). Placed (c .before .before .before .before .before .before .before .before .args .out .now) (c .before .before .before .before .before .before .before .before .args .at) (lineOf (c .before .before .before .before .before .before .before .before .args .word .now) ns) (c .before .before .write-line .result) (c .before .before .write-line .last .0)) (append-nil (c .before .before .before .before .before .before .before .before .args .fields .now)) (c .before .before .write-line .ensures)
 

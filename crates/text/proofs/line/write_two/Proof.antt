@@ -1,4 +1,3 @@
-use Prim.Native.Nat.{ℕ, _+_, _-_, _≤_}
 use native.Mathlib.Omega.{arith}
 use mathlib.Core.Path.{sym, _∙_}
 use mathlib.Core.List.{_++_}
@@ -6,61 +5,43 @@ use Rattle.text.specs.Line.{lineOf, placed-short, first-short, second-sh
 use borrow.Author.Needs.{needs}
 use Rattle.text.proofs.line.write_two.Statement.{statement}
 use Rattle.text.proofs.line.write_two.Tie as tie
-use Rattle.text.proofs.line.write_two.Reads as reads
-use Rattle.text.proofs.line.write_two.Lts as lts
-use Rattle.text.proofs.line.left_after_line.Reads as left-after-line-reads
-use Rattle.text.proofs.line.left_after_plain.Reads as left-after-plain-reads
-use Rattle.text.proofs.line.put_line.Reads as put-line-reads
-use Rattle.text.proofs.line.put_plain.Reads as put-plain-reads
 
--- src/line.rt:180:9
 returns : tie.Need-returns
 returns c = placed-short (c .before .before .before .before .before .before .before .args .out .now) (c .before .before .before .before .before .before .before .args .at) ((lineOf (c .before .before .before .before .before .before .before .args .first .now) (c .before .before .before .before .before .before .before .args .counts .now)) ++ (lineOf (c .before .before .before .before .before .before .before .args .word .now) (c .before .before .before .before .before .before .before .args .fields .now ++ c .before .before .before .before .before .before .before .args .octets .now))) (omega (arith, c .if1 .taken))
 
--- src/line.rt:182:30
 left-after-plain-requires : tie.Need-left-after-plain-requires
 left-after-plain-requires c κs = search needs
 
--- src/line.rt:182:22
 enum-known-left : tie.Need-enum-known-left
 enum-known-left c = search needs
 
--- src/line.rt:183:9
 enum-told : tie.Need-enum-told
 enum-told c = search needs
 
--- src/line.rt:183:9
 returns-2 : tie.Need-returns-2
 returns-2 c = first-short (c .before .before .before .before .before .before .before .before .before .before .args .out .now) (c .before .before .before .before .before .before .before .before .before .before .args .at) (lineOf (c .before .before .before .before .before .before .before .before .before .before .args .first .now) (c .before .before .before .before .before .before .before .before .before .before .args .counts .now)) (lineOf (c .before .before .before .before .before .before .before .before .before .before .args .word .now) (c .before .before .before .before .before .before .before .before .before .before .args .fields .now ++ c .before .before .before .before .before .before .before .before .before .before .args .octets .now)) (c .before .before .before .if1 .left) (sym (c .before .before .left-after-plain .ensures) ∙ c .enum-told .given .1)
 
--- src/line.rt:185:27
 left-after-line-requires : tie.Need-left-after-line-requires
 left-after-line-requires c κs = search needs
 
 enum-told-2 : tie.Need-enum-told-2
 enum-told-2 c = search needs
 
--- src/line.rt:186:9
 enum-told-3 : tie.Need-enum-told-3
 enum-told-3 c = search needs
 
--- src/line.rt:186:9
 returns-3 : tie.Need-returns-3
 returns-3 c = second-short (c .before .before .before .before .before .before .before .before .before .before .before .before .before .before .args .out .now) (c .before .before .before .before .before .before .before .before .before .before .before .before .before .before .args .at) (lineOf (c .before .before .before .before .before .before .before .before .before .before .before .before .before .before .args .first .now) (c .before .before .before .before .before .before .before .before .before .before .before .before .before .before .args .counts .now)) (lineOf (c .before .before .before .before .before .before .before .before .before .before .before .before .before .before .args .word .now) (c .before .before .before .before .before .before .before .before .before .before .before .before .before .before .args .fields .now ++ c .before .before .before .before .before .before .before .before .before .before .before .before .before .before .args .octets .now)) (c .before .before .before .before .before .before .before .if1 .left) _ (sym (c .before .before .before .before .before .before .left-after-plain .ensures) ∙ c .before .before .before .before .left .given .1) (sym (c .before .before .left-after-line .ensures) ∙ c .enum-told3 .given .1)
 
--- src/line.rt:188:9
 put-plain-requires : tie.Need-put-plain-requires
 put-plain-requires c κs = first-room (c .before .before .before .before .before .before .before .before .before .before .before .before .before .before .before .args .out .now) (c .before .before .before .before .before .before .before .before .before .before .before .before .before .before .before .args .at) (lineOf (c .before .before .before .before .before .before .before .before .before .before .before .before .before .before .before .args .first .now) (c .before .before .before .before .before .before .before .before .before .before .before .before .before .before .before .args .counts .now)) (lineOf (c .before .before .before .before .before .before .before .before .before .before .before .before .before .before .before .args .word .now) (c .before .before .before .before .before .before .before .before .before .before .before .before .before .before .before .args .fields .now ++ c .before .before .before .before .before .before .before .before .before .before .before .before .before .before .before .args .octets .now)) (c .before .before .before .before .before .before .before .before .if1 .left) _ (sym (c .before .before .before .before .before .before .before .left-after-plain .ensures) ∙ c .before .before .before .before .before .left .given .1)
 
--- src/line.rt:189:20
 put-line-requires : tie.Need-put-line-requires
 put-line-requires c κs = second-room (c .before .before .before .before .before .before .before .before .before .before .before .before .before .before .before .before .before .before .before .args .out .now) (c .before .before .before .before .before .before .before .before .before .before .before .before .before .before .before .before .before .before .before .args .at) (lineOf (c .before .before .before .before .before .before .before .before .before .before .before .before .before .before .before .before .before .before .before .args .first .now) (c .before .before .before .before .before .before .before .before .before .before .before .before .before .before .before .before .before .before .before .args .counts .now)) (lineOf (c .before .before .before .before .before .before .before .before .before .before .before .before .before .before .before .before .before .before .before .args .word .now) (c .before .before .before .before .before .before .before .before .before .before .before .before .before .before .before .before .before .before .before .args .fields .now ++ c .before .before .before .before .before .before .before .before .before .before .before .before .before .before .before .before .before .before .before .args .octets .now)) (c .before .before .before .before .before .before .before .before .before .before .before .before .if1 .left) _ (sym (c .before .before .before .before .before .before .before .before .before .before .before .left-after-plain .ensures) ∙ c .before .before .before .before .before .before .before .before .before .left .given .1) _ (sym (c .before .before .before .before .before .before .before .left-after-line .ensures) ∙ c .before .before .before .before .before .enum-told2 .given .1) _ _ (c .before .before .before .put-plain .ensures)
 
--- src/line.rt:167:1
 same-length : tie.Need-same-length
 same-length c = search needs
 
--- src/line.rt:167:1
 returns-4 : tie.Need-returns-4
 returns-4 c = placed-both (c .before .before .before .before .before .before .before .before .before .before .before .before .before .before .before .before .before .before .before .before .before .before .args .out .now) (c .before .before .before .before .before .before .before .before .before .before .before .before .before .before .before .before .before .before .before .before .before .before .args .at) (lineOf (c .before .before .before .before .before .before .before .before .before .before .before .before .before .before .before .before .before .before .before .before .before .before .args .first .now) (c .before .before .before .before .before .before .before .before .before .before .before .before .before .before .before .before .before .before .before .before .before .before .args .counts .now)) (lineOf (c .before .before .before .before .before .before .before .before .before .before .before .before .before .before .before .before .before .before .before .before .before .before .args .word .now) (c .before .before .before .before .before .before .before .before .before .before .before .before .before .before .before .before .before .before .before .before .before .before .args .fields .now ++ c .before .before .before .before .before .before .before .before .before .before .before .before .before .before .before .before .before .before .before .before .before .before .args .octets .now)) (c .before .before .before .before .before .before .before .before .before .before .before .before .before .before .before .if1 .left) _ (sym (c .before .before .before .before .before .before .before .before .before .before .before .before .before .before .left-after-plain .ensures) ∙ c .before .before .before .before .before .before .before .before .before .before .before .before .left .given .1) _ (sym (c .before .before .before .before .before .before .before .before .before .before .left-after-line .ensures) ∙ c .before .before .before .before .before .before .before .before .enum-told2 .given .1) _ _ (c .before .before .before .before .before .before .put-plain .ensures) _ _ (c .before .before .put-line .ensures)
 

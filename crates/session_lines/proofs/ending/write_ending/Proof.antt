@@ -1,69 +1,48 @@
-use Prim.Native.Nat.{ℕ, _+_, _-_, _≤_}
-use native.Mathlib.Omega.{arith}
-use mathlib.Core.Path.{_≡_, refl, sym, ap, subst, _∙_}
-use mathlib.Core.List.{List, [], _∷_}
-use lib.ListN.{length}
+use mathlib.Core.Path.{sym, ap, _∙_}
 use Rattle.transport.specs.declared.Kind.{Kind}
 use Rattle.transport.specs.declared.Kind.the-variants.{Rts, Bam}
 use Rattle.text.specs.Line.{lineOf, placed-by}
-use Rattle.report.specs.Lines.{endingWord, endingNumbers}
+use Rattle.session_lines.specs.Lines.{endingWord, endingNumbers}
 use borrow.Author.Needs.{needs}
-use Rattle.report.proofs.answer.write_ending.Statement.{statement}
-use Rattle.report.proofs.answer.write_ending.Tie as tie
-use Rattle.report.proofs.answer.write_ending.Reads as reads
-use Rattle.report.proofs.answer.write_ending.Lts as lts
-use Rattle.report.proofs.answer.ending_numbers.Reads as ending-numbers-reads
-use Rattle.text.proofs.line.write_plain.Reads as write-plain-reads
+use Rattle.session_lines.proofs.ending.write_ending.Statement.{statement}
+use Rattle.session_lines.proofs.ending.write_ending.Tie as tie
 
--- src/answer.rt:74:18
 ending-numbers-requires : tie.Need-ending-numbers-requires
 ending-numbers-requires c κs = search needs
 
--- src/answer.rt:76:34
 enum-told : tie.Need-enum-told
 enum-told c = search needs
 
--- src/answer.rt:76:43
 slice-aggregate-write-plain : tie.Need-slice-aggregate-write-plain
 slice-aggregate-write-plain c = search needs
 
--- src/answer.rt:76:58
 slice-aggregate-write-plain-2 : tie.Need-slice-aggregate-write-plain-2
 slice-aggregate-write-plain-2 c = search needs
 
--- src/answer.rt:76:22
 write-plain-requires : tie.Need-write-plain-requires
 write-plain-requires c κs = search needs
 
--- src/answer.rt:77:34
 enum-told-2 : tie.Need-enum-told-2
 enum-told-2 c = search needs
 
--- src/answer.rt:77:43
 slice-aggregate-write-plain-3 : tie.Need-slice-aggregate-write-plain-3
 slice-aggregate-write-plain-3 c = search needs
 
--- src/answer.rt:77:53
 slice-aggregate-write-plain-4 : tie.Need-slice-aggregate-write-plain-4
 slice-aggregate-write-plain-4 c = search needs
 
--- src/answer.rt:77:22
 write-plain-requires-2 : tie.Need-write-plain-requires-2
 write-plain-requires-2 c κs = search needs
 
--- src/answer.rt:70:1
 same-length : tie.Need-same-length
 same-length c = search needs
 
--- src/answer.rt:70:1
 returns : tie.Need-returns
 returns c = placed-by (ap (λ (k : Kind). lineOf (endingWord k) (endingNumbers (c .before .before .before .before .before .before .before .before .before .before .args .ending))) (c .before .before .before .before .before .before .enum-told .given .1) ∙ ap (lineOf (endingWord Rts)) (sym (c .before .before .before .before .before .before .before .before .ending-numbers .ensures))) (c .before .before .write-plain .ensures)
 
--- src/answer.rt:70:1
 same-length-2 : tie.Need-same-length-2
 same-length-2 c = search needs
 
--- src/answer.rt:70:1
 returns-2 : tie.Need-returns-2
 returns-2 c = placed-by (ap (λ (k : Kind). lineOf (endingWord k) (endingNumbers (c .before .before .before .before .before .before .before .before .before .before .args .ending))) (c .before .before .before .before .before .before .enum-told2 .given .1) ∙ ap (lineOf (endingWord Bam)) (sym (c .before .before .before .before .before .before .before .before .ending-numbers .ensures))) (c .before .before .write-plain2 .ensures)
 

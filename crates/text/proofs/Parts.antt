@@ -1,14 +1,12 @@
--- Loops that walk a list and write, or count, what each element becomes.
+-- What the parts of a line are made of, and the room that they leave.
 use Prim.Native.Nat.{ℕ, suc, _+_, _-_, _<_, _≤_}
 use native.Mathlib.Omega.{arith}
 use mathlib.Core.Path.{_≡_, refl, sym, ap, subst, _∙_}
 use mathlib.Core.List.{List, [], _∷_, _++_, append-assoc}
-use lib.ListN.{length, getD, set, drop, length-append}
-use Rattle.laws.specs.Turn.{turn, end}
-use Rattle.text.specs.Decimal.{decimal, widthOf, length-decimal}
-use Rattle.text.specs.Put.{put, PutAt, put-set, put-same, put-then, Going, going-room, going-on, going-end}
+use lib.ListN.{length, set, length-append}
+use Rattle.text.specs.Decimal.{widthOf, length-decimal}
+use Rattle.text.specs.Put.{PutAt, put-set, put-same, put-then}
 use Rattle.text.specs.Line.{spaced, numbers, lineOf, leftBy, left-short, left-enough, left-then, short-of, enough-of}
-use Rattle.text.specs.declared.Left.{Left}
 use Rattle.text.specs.declared.Left.the-variants.{Enough, Short}
 
 pub no-numbers : numbers [] ≡ []

@@ -1,41 +1,30 @@
 use Prim.Native.Nat.{ℕ}
-use mathlib.Core.Path.{_≡_, refl, sym, ap, _∙_}
-use mathlib.Core.List.{List, [], _∷_}
-use Rattle.text.specs.Line.{lineOf, Placed, placed-by}
-use Rattle.report.specs.Lines.{refusedWord}
+use mathlib.Core.Path.{sym, ap}
+use mathlib.Core.List.{[], _∷_}
+use Rattle.text.specs.Line.{lineOf, placed-by}
+use Rattle.session_lines.specs.Lines.{refusedWord}
 use borrow.Author.Needs.{needs}
-use Rattle.report.proofs.answer.write_refused.Statement.{statement}
-use Rattle.report.proofs.answer.write_refused.Tie as tie
-use Rattle.report.proofs.answer.write_refused.Reads as reads
-use Rattle.report.proofs.answer.write_refused.Lts as lts
-use Rattle.frame.proofs.refusal.number.Reads as number-reads
-use Rattle.text.proofs.line.write_plain.Reads as write-plain-reads
+use Rattle.session_lines.proofs.ending.write_refused.Statement.{statement}
+use Rattle.session_lines.proofs.ending.write_refused.Tie as tie
 
--- src/answer.rt:42:19
 number-requires : tie.Need-number-requires
 number-requires c κs = search needs
 
--- src/answer.rt:42:19
 cast-t7 : tie.Need-cast-t7
 cast-t7 c = search needs
 
--- src/answer.rt:43:27
 slice-aggregate-write-plain : tie.Need-slice-aggregate-write-plain
 slice-aggregate-write-plain c = search needs
 
--- src/answer.rt:43:39
 slice-aggregate-write-plain-2 : tie.Need-slice-aggregate-write-plain-2
 slice-aggregate-write-plain-2 c = search needs
 
--- src/answer.rt:43:5
 write-plain-requires : tie.Need-write-plain-requires
 write-plain-requires c κs = search needs
 
--- src/answer.rt:39:1
 same-length : tie.Need-same-length
 same-length c = search needs
 
--- src/answer.rt:39:1
 returns : tie.Need-returns
 returns c = placed-by (ap (λ (n : ℕ). lineOf refusedWord (n ∷ [])) (sym (c .before .before .before .before .before .before .number .ensures))) (c .before .before .write-plain .ensures)
 

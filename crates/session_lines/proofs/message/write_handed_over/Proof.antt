@@ -1,49 +1,36 @@
-use Prim.Native.Nat.{ℕ}
-use mathlib.Core.Path.{_≡_, refl, sym, ap, _∙_}
-use mathlib.Core.List.{List, [], _∷_, _++_}
-use Rattle.text.specs.Line.{lineOf, Placed, placed-by}
+use mathlib.Core.Path.{ap}
+use mathlib.Core.List.{[], _++_}
+use Rattle.text.specs.Line.{placed-by}
 use mathlib.Core.Bool.{cond}
 use Rattle.transport.specs.declared.Kind.{Kind}
 use Rattle.session.specs.Announcements.{isRts}
-use Rattle.report.specs.Lines.{sessionLine, messageLine, eomaWord}
+use Rattle.session_lines.specs.Lines.{sessionLine, messageLine, eomaWord}
 use borrow.Author.Needs.{needs}
-use Rattle.report.proofs.answer.write_handed_over.Statement.{statement}
-use Rattle.report.proofs.answer.write_handed_over.Tie as tie
-use Rattle.report.proofs.answer.write_handed_over.Reads as reads
-use Rattle.report.proofs.answer.write_handed_over.Lts as lts
-use Rattle.report.proofs.answer.write_acknowledged.Reads as write-acknowledged-reads
-use Rattle.report.proofs.answer.write_message.Reads as write-message-reads
+use Rattle.session_lines.proofs.message.write_handed_over.Statement.{statement}
+use Rattle.session_lines.proofs.message.write_handed_over.Tie as tie
 
--- src/answer.rt:131:41
 enum-told : tie.Need-enum-told
 enum-told c = search needs
 
--- src/answer.rt:131:22
 write-acknowledged-requires : tie.Need-write-acknowledged-requires
 write-acknowledged-requires c κs = search needs
 
--- src/answer.rt:132:36
 enum-told-2 : tie.Need-enum-told-2
 enum-told-2 c = search needs
 
--- src/answer.rt:132:22
 write-message-requires : tie.Need-write-message-requires
 write-message-requires c κs = search needs
 
--- src/answer.rt:126:1
 same-length : tie.Need-same-length
 same-length c = search needs
 
--- src/answer.rt:126:1
 returns : tie.Need-returns
 returns c =
     placed-by (ap (λ (k : Kind). cond (isRts k) (sessionLine eomaWord (c .before .before .before .before .before .before .before .before .args .m .key) []) [] ++ messageLine (c .before .before .before .before .before .before .before .before .args .m) (c .before .before .before .before .before .before .before .before .args .bytes .now)) (c .before .before .before .before .enum-told .given .1)) (c .before .before .write-acknowledged .ensures)
 
--- src/answer.rt:126:1
 same-length-2 : tie.Need-same-length-2
 same-length-2 c = search needs
 
--- src/answer.rt:126:1
 returns-2 : tie.Need-returns-2
 returns-2 c =
     placed-by (ap (λ (k : Kind). cond (isRts k) (sessionLine eomaWord (c .before .before .before .before .before .before .before .before .args .m .key) []) [] ++ messageLine (c .before .before .before .before .before .before .before .before .args .m) (c .before .before .before .before .before .before .before .before .args .bytes .now)) (c .before .before .before .before .enum-told2 .given .1)) (c .before .before .write-message .ensures)
