@@ -7,9 +7,10 @@ ghost use Rattle.report.specs.Lines.{groupNumbers, groupLine, groupLines
 ghost use Rattle.text.specs.Line.{leftBy, Placed};
 ghost use Rattle.text.specs.Put.{PutAt};
 use frame::identifier;
-use multi_pg::Cursor;
 use multi_pg::Group;
 use multi_pg::Next;
+use reader::group_at;
+use reader::start_of;
 use text::Left;
 use text::Wrote;
 use text::line::left_after_plain;
@@ -45,12 +46,10 @@ fn put_group(out: &mut [u8], at: usize, id: u32, group: Group) -> usize
 fn left_after_groups(room: usize, id: u32, frame: &[u8]) -> Left
     ensures { λ r. ⌜ r ≡ leftBy room (length (groupLines id (groupsOf (now (frame .entry))))) ⌝ }
 {
-    let start = Cursor::over(frame);
-    let mut at = start.at;
+    let mut at = start_of(frame);
     let mut left = room;
     loop {
-        let reader = Cursor { at: at };
-        match reader.next(frame) {
+        match group_at(frame, at) {
             Next::End => {
                 return Left::Enough(left);
             }
@@ -69,12 +68,10 @@ fn put_groups(out: &mut [u8], at: usize, id: u32, frame: &[u8]) -> usize
     requires { ⌜ at + length (groupLines id (groupsOf (now frame))) ≤ length (now out) ⌝ }
     ensures { λ r. ⌜ PutAt (now (out .entry)) at (groupLines id (groupsOf (now (frame .entry)))) r (now (out .exit)) ⌝ }
 {
-    let start = Cursor::over(frame);
-    let mut place = start.at;
+    let mut place = start_of(frame);
     let mut next = at;
     loop {
-        let reader = Cursor { at: place };
-        match reader.next(frame) {
+        match group_at(frame, place) {
             Next::End => {
                 return next;
             }

@@ -12,20 +12,20 @@ Inv-loop room id frame at₀ left₀ at left = Counting frame id room at left
 abbrev μ-loop : tie.MeasureT-loop
 μ-loop room id frame at₀ left₀ at left = length frame - at
 
-over-requires : tie.Need-over-requires Inv-loop μ-loop
-over-requires c κs = search needs
+start-of-requires : tie.Need-start-of-requires Inv-loop μ-loop
+start-of-requires c κs = search needs
 
 loop-holds : tie.Need-loop-holds Inv-loop μ-loop
-loop-holds c = counting-start _ _ _ _ (c .over .ensures)
+loop-holds c = counting-start _ _ _ _ (c .start-of .ensures)
 
-next-requires : tie.Need-next-requires Inv-loop μ-loop
-next-requires c κs = search needs
+group-at-requires : tie.Need-group-at-requires Inv-loop μ-loop
+group-at-requires c κs = search needs
 
 enum-told : tie.Need-enum-told Inv-loop μ-loop
 enum-told c = search needs
 
 returns : tie.Need-returns Inv-loop μ-loop
-returns c = counting-end _ _ _ _ _ (c .before .before .before .loop .inv) (sym (c .before .before .next .ensures) ∙ c .enum-told .given .1)
+returns c = counting-end _ _ _ _ _ (c .before .before .before .loop .inv) (sym (c .before .before .group-at .ensures) ∙ c .enum-told .given .1)
 
 enum-known-group : tie.Need-enum-known-group Inv-loop μ-loop
 enum-known-group c = search needs
@@ -40,13 +40,13 @@ enum-told-2 : tie.Need-enum-told-2 Inv-loop μ-loop
 enum-told-2 c = search needs
 
 returns-2 : tie.Need-returns-2 Inv-loop μ-loop
-returns-2 c = counting-cut _ _ _ _ _ (c .before .before .before .before .before .before .before .loop .inv) _ _ (sym (c .before .before .before .before .before .before .next .ensures) ∙ c .before .before .before .before .group .given .1) (sym (c .before .before .left-after-group .ensures) ∙ c .enum-told2 .given .1)
+returns-2 c = counting-cut _ _ _ _ _ (c .before .before .before .before .before .before .before .loop .inv) _ _ (sym (c .before .before .before .before .before .before .group-at .ensures) ∙ c .before .before .before .before .group .given .1) (sym (c .before .before .left-after-group .ensures) ∙ c .enum-told2 .given .1)
 
 loop-less : tie.Need-loop-less Inv-loop μ-loop
-loop-less c = nearer (c .before .before .before .before .before .before .before .before .before .before .before .args .frame .now) (c .before .before .before .before .before .before .before .before .loop .at) _ _ (sym (c .before .before .before .before .before .before .before .next .ensures) ∙ c .before .before .before .before .before .group .given .1)
+loop-less c = nearer (c .before .before .before .before .before .before .before .before .before .before .before .args .frame .now) (c .before .before .before .before .before .before .before .before .loop .at) _ _ (sym (c .before .before .before .before .before .before .before .group-at .ensures) ∙ c .before .before .before .before .before .group .given .1)
 
 loop-again : tie.Need-loop-again Inv-loop μ-loop
-loop-again c = counting-on _ _ _ _ _ (c .before .before .before .before .before .before .before .before .loop .inv) _ _ (sym (c .before .before .before .before .before .before .before .next .ensures) ∙ c .before .before .before .before .before .group .given .1) _ (sym (c .before .before .before .left-after-group .ensures) ∙ c .before .behind .given .1)
+loop-again c = counting-on _ _ _ _ _ (c .before .before .before .before .before .before .before .before .loop .inv) _ _ (sym (c .before .before .before .before .before .before .before .group-at .ensures) ∙ c .before .before .before .before .before .group .given .1) _ (sym (c .before .before .before .left-after-group .ensures) ∙ c .before .behind .given .1)
 
 pub left-after-groups-spec : {M : Type 1} → statement M
 left-after-groups-spec =
@@ -54,9 +54,9 @@ left-after-groups-spec =
     (tie.spec
     Inv-loop
     μ-loop
-    over-requires
+    start-of-requires
     loop-holds
-    next-requires
+    group-at-requires
     enum-told
     returns
     enum-known-group

@@ -12,14 +12,14 @@ Inv-loop out₀ at id frame place₀ next₀ out place next = Printing out₀ at
 abbrev μ-loop : tie.MeasureT-loop
 μ-loop out₀ at id frame place₀ next₀ out place next = length frame - place
 
-over-requires : tie.Need-over-requires Inv-loop μ-loop
-over-requires c κs = search needs
+start-of-requires : tie.Need-start-of-requires Inv-loop μ-loop
+start-of-requires c κs = search needs
 
 loop-holds : tie.Need-loop-holds Inv-loop μ-loop
-loop-holds c = printing-start _ _ _ _ _ (c .over .ensures)
+loop-holds c = printing-start _ _ _ _ _ (c .start-of .ensures)
 
-next-requires : tie.Need-next-requires Inv-loop μ-loop
-next-requires c κs = search needs
+group-at-requires : tie.Need-group-at-requires Inv-loop μ-loop
+group-at-requires c κs = search needs
 
 enum-told : tie.Need-enum-told Inv-loop μ-loop
 enum-told c = search needs
@@ -28,19 +28,19 @@ same-length : tie.Need-same-length Inv-loop μ-loop
 same-length c = c .before .before .before .loop .inv .going .same
 
 returns : tie.Need-returns Inv-loop μ-loop
-returns c = printing-end _ _ _ _ _ _ _ (c .before .before .before .loop .inv) (sym (c .before .before .next .ensures) ∙ c .enum-told .given .1)
+returns c = printing-end _ _ _ _ _ _ _ (c .before .before .before .loop .inv) (sym (c .before .before .group-at .ensures) ∙ c .enum-told .given .1)
 
 enum-known-group : tie.Need-enum-known-group Inv-loop μ-loop
 enum-known-group c = search needs
 
 put-group-requires : tie.Need-put-group-requires Inv-loop μ-loop
-put-group-requires c κs = printing-room _ _ _ _ _ _ _ (c .before .before .before .before .before .loop .inv) (c .before .before .before .before .before .before .before .before .before .pre) _ _ (sym (c .before .before .before .before .next .ensures) ∙ c .before .before .group .given .1)
+put-group-requires c κs = printing-room _ _ _ _ _ _ _ (c .before .before .before .before .before .loop .inv) (c .before .before .before .before .before .before .before .before .before .pre) _ _ (sym (c .before .before .before .before .group-at .ensures) ∙ c .before .before .group .given .1)
 
 loop-less : tie.Need-loop-less Inv-loop μ-loop
-loop-less c = nearer (c .before .before .before .before .before .before .before .before .before .before .before .before .args .frame .now) (c .before .before .before .before .before .before .before .before .loop .place) _ _ (sym (c .before .before .before .before .before .before .before .next .ensures) ∙ c .before .before .before .before .before .group .given .1)
+loop-less c = nearer (c .before .before .before .before .before .before .before .before .before .before .before .before .args .frame .now) (c .before .before .before .before .before .before .before .before .loop .place) _ _ (sym (c .before .before .before .before .before .before .before .group-at .ensures) ∙ c .before .before .before .before .before .group .given .1)
 
 loop-again : tie.Need-loop-again Inv-loop μ-loop
-loop-again c = printing-on _ _ _ _ _ _ _ (c .before .before .before .before .before .before .before .before .loop .inv) (c .before .before .before .before .before .before .before .before .before .before .before .before .pre) _ _ (sym (c .before .before .before .before .before .before .before .next .ensures) ∙ c .before .before .before .before .before .group .given .1) _ _ (c .before .before .put-group .ensures)
+loop-again c = printing-on _ _ _ _ _ _ _ (c .before .before .before .before .before .before .before .before .loop .inv) (c .before .before .before .before .before .before .before .before .before .before .before .before .pre) _ _ (sym (c .before .before .before .before .before .before .before .group-at .ensures) ∙ c .before .before .before .before .before .group .given .1) _ _ (c .before .before .put-group .ensures)
 
 pub put-groups-spec : {M : Type 1} → statement M
 put-groups-spec =
@@ -48,9 +48,9 @@ put-groups-spec =
     (tie.spec
     Inv-loop
     μ-loop
-    over-requires
+    start-of-requires
     loop-holds
-    next-requires
+    group-at-requires
     enum-told
     same-length
     returns
