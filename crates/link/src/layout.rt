@@ -34,7 +34,7 @@ pub struct RecordRead {
 }
 
 // Copies the first n bytes of src into out from at on.
-fn copy(out: &mut [u8], at: usize, src: &[u8], n: usize)
+pub fn copy(out: &mut [u8], at: usize, src: &[u8], n: usize)
     requires { ⌜ (at + n ≤ length (now out)) × (n ≤ length (now src)) ⌝ }
     ensures { λ _. ⌜ now (out .exit) ≡ paste (now (out .entry)) at (now (src .entry)) n ⌝ }
 {
@@ -130,7 +130,7 @@ fn slots_at(bytes: &[u8]) -> [Slot; 8]
     out
 }
 
-fn record_at(bytes: &[u8]) -> Receiver
+pub fn record_at(bytes: &[u8]) -> Receiver
     requires { ⌜ length (now bytes) ≡ 249 ⌝ }
     ensures { λ r. ⌜ r ≡ recordAt (now (bytes .entry)) ⌝ }
 {

@@ -23,7 +23,7 @@ pub fn codes_ok(state: u8, kind: u8) -> bool
     (state == 0) | ((state == 1) & ((kind == 1) | (kind == 2)))
 }
 
-fn kind_byte(kind: Kind) -> u8
+pub fn kind_byte(kind: Kind) -> u8
     ensures { λ r. ⌜ r ≡ kindByte kind ⌝ }
 {
     match kind {
