@@ -1,0 +1,4 @@
+pub mod Written
+pub mod Slots
+pub mod Sent
+pub mod Exports
