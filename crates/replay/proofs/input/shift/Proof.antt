@@ -3,10 +3,10 @@ use Prim.Native.Nat.{_≤_, _-_}
 use mathlib.Core.Path.{_≡_}
 use lib.ListN.{length, length-set}
 use native.Mathlib.Omega.{arith}
-use Rattle.receive.proofs.input.shift.Statement.{statement}
-use Rattle.receive.proofs.input.shift.Tie as tie
-use Rattle.receive.proofs.input.shift.Reads as reads
-use Rattle.receive.proofs.input.shift.Lts as lts
+use Rattle.replay.proofs.input.shift.Statement.{statement}
+use Rattle.replay.proofs.input.shift.Tie as tie
+use Rattle.replay.proofs.input.shift.Reads as reads
+use Rattle.replay.proofs.input.shift.Lts as lts
 
 abbrev Inv-loop : tie.InvT-loop
 Inv-loop window₀ from to i₀ j₀ window i j = (j ≤ i) × (length window ≡ length window₀)

@@ -2,12 +2,12 @@ use borrow.Author.Needs.{needs}
 use mathlib.Core.Path.{_≡_, refl}
 use lib.ListN.{length}
 use native.Mathlib.Omega.{arith}
-use Rattle.receive.proofs.run.all.Statement.{statement}
-use Rattle.receive.proofs.run.all.Tie as tie
-use Rattle.receive.proofs.run.all.Reads as reads
-use Rattle.receive.proofs.run.all.Lts as lts
-use Rattle.receive.proofs.output.flush.Reads as flush-reads
-use Rattle.receive.proofs.run.turn.Reads as turn-reads
+use Rattle.replay.proofs.run.all.Statement.{statement}
+use Rattle.replay.proofs.run.all.Tie as tie
+use Rattle.replay.proofs.run.all.Reads as reads
+use Rattle.replay.proofs.run.all.Lts as lts
+use Rattle.replay.proofs.output.flush.Reads as flush-reads
+use Rattle.replay.proofs.run.turn.Reads as turn-reads
 
 abbrev Inv-loop : tie.InvT-loop
 Inv-loop window₀ store₀ lines₀ r₀ turns₀ window store lines r turns = (length window ≡ length window₀) × (length store ≡ length store₀) × (length lines ≡ length lines₀)
