@@ -5,18 +5,6 @@ pub fn first(s: &[u8], n: usize) -> &[u8] {
     if n <= s.len() { &s[0..n] } else { s }
 }
 
-// The len bytes of s from start on; none where they do not lie in s.
-pub fn cut(s: &[u8], start: usize, len: usize) -> &[u8] {
-    if s.len() < start {
-        return &s[0..0];
-    }
-    if s.len() - start < len {
-        return &s[0..0];
-    }
-    let end = start + len;
-    &s[start..end]
-}
-
 // Moves the bytes from `from` to `to` to the start of the window, and answers how many they are.
 pub fn shift(window: &mut [u8], from: usize, to: usize) -> usize {
     let mut i = from;

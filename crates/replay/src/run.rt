@@ -176,13 +176,10 @@ fn turn(before: Run, window: &mut [u8], store: &mut [u8], lines: &mut [u8]) -> R
             start,
             len,
             next,
-        } => take_frame(
-            passed(r, next),
-            identifier,
-            input::cut(window, start, len),
-            store,
-            lines,
-        ),
+        } => {
+            let frame = bytes_of(Place::Group { start, len }, window, window);
+            take_frame(passed(r, next), identifier, frame, store, lines)
+        }
     }
 }
 
