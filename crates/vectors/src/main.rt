@@ -1,5 +1,6 @@
 // Runs worked figures of SAE J1939-22 through the code and prints what comes. The file stdout beside src/ holds what should come,
-// worked out from the standard by hand; no line of it was copied from a run.
+// and no line of it was copied from a run: those of the figures were worked out from the standard by hand, those of the transfers
+// through the calls, some hundred with long messages, were written by a loop over 01's rules for grants, segments and hand-over.
 mod calls;
 mod groups;
 mod show;
