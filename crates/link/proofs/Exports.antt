@@ -12,9 +12,9 @@ use Rattle.receiver.specs.declared.answer.Stepped.{Stepped}
 use Rattle.receiver.specs.Bounds.{openedWith}
 use Rattle.receiver.specs.Answers.{answerNumber}
 use Rattle.receiver.specs.Calls.{frameStep, frameStore}
-use Rattle.link.specs.Layout.{recordBytes, storedIn, isRecord, recordAt}
-use Rattle.link.specs.Pieces.{record-long}
-use Rattle.link.specs.Answers.{answerBytes}
+use Rattle.record_bytes.specs.Layout.{recordBytes, storedIn, isRecord, recordAt}
+use Rattle.record_bytes.specs.Pieces.{record-long}
+use Rattle.answer_bytes.specs.Answers.{answerBytes}
 use Rattle.link.specs.Calls.{openingNumber, openedIn, framedBy, framedIn}
 
 stored-whole : (r : Receiver) (d o : List ℕ) (w : Bool) → length d ≡ 249 → (w, o) ≡ storedIn r d → o ≡ recordBytes r

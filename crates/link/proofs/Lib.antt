@@ -1,4 +1,1 @@
-pub mod Written
-pub mod Slots
-pub mod Sent
 pub mod Exports

@@ -12,8 +12,8 @@ use Rattle.receiver.specs.declared.Receiver.{Receiver}
 use Rattle.receiver.specs.Bounds.{openedWith}
 use Rattle.receiver.specs.Answers.{answerNumber}
 use Rattle.receiver.specs.Calls.{frameStep, frameStore}
-use Rattle.link.specs.Layout.{recordBytes, isRecord, recordAt}
-use Rattle.link.specs.Answers.{answerBytes}
+use Rattle.record_bytes.specs.Layout.{recordBytes, isRecord, recordAt}
+use Rattle.answer_bytes.specs.Answers.{answerBytes}
 
 abbrev pub leastOr : Least → ℕ
 leastOr (Length n) = n

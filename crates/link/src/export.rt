@@ -2,17 +2,17 @@
 ghost use mathlib.Core.Path.{_≡_};
 ghost use Rattle.frame.specs.Lengths.{leastLength};
 ghost use Rattle.link.specs.Calls.{leastOr, openingNumber, openedIn, framedIn};
-use super::answer::ANSWER_BYTES;
-use super::answer::write_answer;
-use super::layout::RECORD_BYTES;
-use super::layout::is_record;
-use super::layout::record_at;
-use super::layout::write_record;
+use answer_bytes::answer::ANSWER_BYTES;
+use answer_bytes::answer::write_answer;
 use frame::Address;
 use frame::length::Least;
 use frame::length::least_length;
 use receiver::Receiver;
 use receiver::answer::number;
+use record_bytes::layout::RECORD_BYTES;
+use record_bytes::layout::is_record;
+use record_bytes::layout::record_at;
+use record_bytes::layout::write_record;
 use slots::bounds::opening_ok;
 
 // The least length of a frame that holds need bytes; 255 for more than 64.

@@ -4,7 +4,7 @@ use lib.Dec.{eqb}
 use lib.ListN.{length}
 use denote.Ref.{now}
 use Rattle.laws.specs.Choice.{then}
-use Rattle.link.specs.Layout.{isRecord}
+use Rattle.record_bytes.specs.Layout.{isRecord}
 use Rattle.link.specs.Calls.{framedIn}
 use Rattle.link.proofs.Exports.{record-ready, answer-ready, framed-put}
 use borrow.Author.Needs.{needs}
@@ -12,10 +12,10 @@ use Rattle.link.proofs.export.dwb_frame.Statement.{statement}
 use Rattle.link.proofs.export.dwb_frame.Tie as tie
 use Rattle.link.proofs.export.dwb_frame.Reads as reads
 use Rattle.link.proofs.export.dwb_frame.Lts as lts
-use Rattle.link.proofs.answer.write_answer.Reads as write-answer-reads
-use Rattle.link.proofs.layout.is_record.Reads as is-record-reads
-use Rattle.link.proofs.layout.record_at.Reads as record-at-reads
-use Rattle.link.proofs.layout.write_record.Reads as write-record-reads
+use Rattle.answer_bytes.proofs.answer.write_answer.Reads as write-answer-reads
+use Rattle.record_bytes.proofs.layout.is_record.Reads as is-record-reads
+use Rattle.record_bytes.proofs.layout.record_at.Reads as record-at-reads
+use Rattle.record_bytes.proofs.layout.write_record.Reads as write-record-reads
 use Rattle.receiver.proofs.Receiver.frame.Reads as frame-reads
 use Rattle.receiver.proofs.answer.number.Reads as number-reads
 

@@ -15,7 +15,7 @@ use Rattle.link.proofs.export.dwb_open.Tie as tie
 use Rattle.link.proofs.export.dwb_open.Reads as reads
 use Rattle.link.proofs.export.dwb_open.Lts as lts
 use Rattle.link.proofs.export.opening_number.Reads as opening-number-reads
-use Rattle.link.proofs.layout.write_record.Reads as write-record-reads
+use Rattle.record_bytes.proofs.layout.write_record.Reads as write-record-reads
 use Rattle.receiver.proofs.Receiver.open.Reads as open-reads
 
 -- src/export.rt:46:9

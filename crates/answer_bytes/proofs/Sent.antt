@@ -1,0 +1,52 @@
+-- An answer put into its buffer.
+use Prim.Native.Nat.{ℕ, _+_, _-_, _≤_, _<_}
+use native.Mathlib.Omega.{arith}
+use mathlib.Core.Path.{_≡_, refl, sym, ap, _∙_}
+use mathlib.Core.List.{List, [], _∷_, _++_, append-assoc, append-nil}
+use lib.ListN.{length, take, drop, drop-of-length-le}
+use lib.Seq.{paste, take-paste, length-paste, take-all}
+use Rattle.transport.specs.declared.response.Response.{Response}
+use Rattle.transport.specs.declared.response.Response.the-variants.{Cts, Eoma, Abort}
+use Rattle.transport.specs.Responses.{responseBytes, responseId}
+use Rattle.receiver.specs.declared.answer.Answer.{Answer}
+use Rattle.receiver.specs.declared.answer.Sending.{Sending}
+use Rattle.receiver.specs.Answers.{answerSends, sendingOf}
+use Rattle.answer_bytes.specs.declared.answer.Fields.{Fields}
+use Rattle.answer_bytes.specs.Answers.{fieldsOf, fieldsBytes, sentHead, responseSent, sentBytes, answerBytes}
+
+-- a copy that reaches the end
+pub paste-end : (d : List ℕ) (at : ℕ) (s : List ℕ) (n : ℕ) → length d ≡ at + n → length s ≡ n → paste d at s n ≡ take at d ++ s
+paste-end d at s n e f =
+    let w : length d ≤ at + n = omega arith in
+    ap (λ (l : List ℕ). take at d ++ take n s ++ l) (drop-of-length-le d w)
+    ∙ append-nil (take at d ++ take n s)
+    ∙ ap (λ (l : List ℕ). take at d ++ l) (take-all n s (omega arith))
+
+length-response : (f : Response) → length (responseBytes f) ≡ 12
+unfolding responseBytes
+length-response (Cts f) = refl
+length-response (Eoma f) = refl
+length-response (Abort f) = refl
+
+pub response-put : (f : Response) (d o₁ o₂ h b : List ℕ) (id : ℕ) → length d ≡ 36 → id ≡ responseId f → h ≡ sentHead id → b ≡ responseBytes f
+    → o₁ ≡ paste d 19 h 5 → o₂ ≡ paste o₁ 24 b 12 → o₂ ≡ take 19 d ++ responseSent f
+response-put f d o₁ o₂ h b id long ei eh eb e₁ e₂ =
+    let lh : length h ≡ 5 = ap length eh in
+    let lb : length b ≡ 12 = ap length eb ∙ length-response f in
+    let l₁ : length o₁ ≡ 36 = ap length e₁ ∙ length-paste d 19 h 5 (omega arith) (omega arith) ∙ long in
+    e₂
+    ∙ paste-end o₁ 24 b 12 l₁ lb
+    ∙ ap (λ (l : List ℕ). take 24 l ++ b) e₁
+    ∙ ap (λ (l : List ℕ). l ++ b) (take-paste d 19 h 5 (omega arith) (omega arith) ∙ ap (λ (l : List ℕ). take 19 d ++ l) (take-all 5 h (omega arith) ∙ eh ∙ ap sentHead ei))
+    ∙ append-assoc (take 19 d) (sentHead (responseId f)) b
+    ∙ ap (λ (l : List ℕ). take 19 d ++ (sentHead (responseId f) ++ l)) eb
+
+pub answer-put : (a : Answer) (F : Fields) (S : Sending) (d o₁ o₂ h : List ℕ) → length d ≡ 36 → F ≡ fieldsOf a → h ≡ fieldsBytes F → o₁ ≡ paste d 0 h 19
+    → S ≡ sendingOf (answerSends a) → o₂ ≡ take 19 o₁ ++ sentBytes S → o₂ ≡ answerBytes a
+unfolding fieldsBytes
+answer-put a F S d o₁ o₂ h long eF eh e₁ eS e₂ =
+    let lh : length h ≡ 19 = ap length eh in
+    e₂
+    ∙ ap (λ (l : List ℕ). take 19 l ++ sentBytes S) e₁
+    ∙ ap (λ (l : List ℕ). l ++ sentBytes S) (take-paste d 0 h 19 (omega arith) (omega arith) ∙ take-all 19 h (omega arith) ∙ eh ∙ ap fieldsBytes eF)
+    ∙ ap (λ (s : Sending). fieldsBytes (fieldsOf a) ++ sentBytes s) eS

@@ -1,0 +1,86 @@
+-- An answer as bytes of a fixed layout: number, code, key, kind, count or slot, PGN, Total Bytes, segment; then the frame that is due.
+use Prim.Native.Nat.{ℕ, _+_, _*_, _/_, _%_}
+use mathlib.Core.List.{List, [], _∷_, _++_}
+use lib.ListN.{replicate}
+use Rattle.frame.specs.Refusals.{numberOf}
+use Rattle.transport.specs.declared.Key.{Key}
+use Rattle.transport.specs.declared.response.Cts.{Cts}
+use Rattle.transport.specs.declared.response.Response.{Response}
+use Rattle.transport.specs.Responses.{responseBytes, responseId}
+use Rattle.receiver.specs.declared.answer.Message.{Message}
+use Rattle.receiver.specs.declared.answer.Ending.{Ending}
+use Rattle.receiver.specs.declared.answer.Rejection.{Rejection}
+use Rattle.receiver.specs.declared.answer.Taken as taken
+use Rattle.receiver.specs.declared.answer.Answer.{Answer}
+use Rattle.receiver.specs.declared.answer.Answer.the-variants.{Groups, Opened, Taken, Grant, HandedOver, Aborted, Ended, RefusedRts, Refused}
+use Rattle.receiver.specs.declared.answer.Sending.{Sending}
+use Rattle.receiver.specs.declared.answer.Sending.the-variants as sending
+use Rattle.receiver.specs.Answers.{answerSends, sendingOf}
+use Rattle.answer_bytes.specs.declared.answer.Fields.{Fields}
+use Rattle.record_bytes.specs.Layout.{low4, kindByte}
+
+abbrev pub noKey : Key
+noKey = record { sa = record { 0 = 0 }; da = record { 0 = 0 }; session = record { 0 = 0 } }
+
+-- an answer that says a key, or not even that
+abbrev pub keyed : ℕ → ℕ → Key → Fields
+keyed code n k =
+    record { number = n; code = code; key = k; kind = 0; extra = 0; pgn = 0; total = 0; segment = 0 }
+
+abbrev pub takenFields : taken.Taken → Fields
+takenFields t =
+    record { number = 0; code = 3; key = t .key; kind = 0; extra = 0; pgn = 0; total = 0; segment = t .number .0 }
+
+-- an RTS alone has grants
+abbrev pub grantFields : Cts → Fields
+grantFields c =
+    record { number = 0; code = 4; key = c .key; kind = 1; extra = c .count; pgn = c .pgn; total = 0; segment = c .next .0 }
+
+-- a slot's number is below 8
+abbrev pub messageFields : Message → Fields
+messageFields m =
+    record { number = 0; code = 5; key = m .key; kind = kindByte (m .kind); extra = m .slot % 256; pgn = m .pgn; total = m .total .0; segment = m .segments .0 }
+
+abbrev pub endedFields : Ending → Fields
+endedFields e =
+    record { number = numberOf (e .refusal); code = 7; key = e .key; kind = kindByte (e .kind); extra = 0; pgn = e .pgn; total = 0; segment = 0 }
+
+abbrev pub rejectionFields : Rejection → Fields
+rejectionFields j =
+    record { number = numberOf (j .refusal); code = 8; key = j .key; kind = 1; extra = 0; pgn = j .pgn; total = 0; segment = 0 }
+
+abbrev pub fieldsOf : Answer → Fields
+fieldsOf Groups = keyed 1 0 noKey
+fieldsOf (Opened k) = keyed 2 0 k
+fieldsOf (Taken t) = takenFields t
+fieldsOf (Grant c) = grantFields c
+fieldsOf (HandedOver m) = messageFields m
+fieldsOf (Aborted k) = keyed 6 0 k
+fieldsOf (Ended e) = endedFields e
+fieldsOf (RefusedRts j) = rejectionFields j
+fieldsOf (Refused n) = keyed 9 (numberOf n) noKey
+
+unfoldable pub fieldsBytes : Fields → List ℕ
+fieldsBytes f =
+    f .number
+    ∷ f .code
+    ∷ f .key .sa .0
+    ∷ f .key .da .0
+    ∷ f .key .session .0
+    ∷ f .kind
+    ∷ f .extra
+    ∷ low4 (f .pgn) (low4 (f .total) (low4 (f .segment) []))
+
+abbrev pub sentHead : ℕ → List ℕ
+sentHead id = 1 ∷ low4 id []
+
+abbrev pub responseSent : Response → List ℕ
+responseSent f = sentHead (responseId f) ++ responseBytes f
+
+-- 1, identifier and 12 bytes; zeros where nothing is sent
+abbrev pub sentBytes : Sending → List ℕ
+sentBytes sending.Nothing = replicate 17 0
+sentBytes (sending.Send f) = responseSent f
+
+abbrev pub answerBytes : Answer → List ℕ
+answerBytes a = fieldsBytes (fieldsOf a) ++ sentBytes (sendingOf (answerSends a))

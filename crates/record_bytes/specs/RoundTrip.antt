@@ -1,0 +1,145 @@
+-- A record that is written is read back as it was.
+use Prim.Native.Nat.{ℕ, zero, suc, _+_, _*_, _/_, _%_, _<_}
+use native.Mathlib.Omega.{arith}
+use mathlib.Core.Path.{_≡_, refl, sym, ap, _∙_}
+use mathlib.Core.Bool.{Bool, true, false, cond, not, _&&_, _||_}
+use mathlib.Core.List.{List, [], _∷_, _++_, map}
+use lib.Dec.{eqb}
+use lib.ListN.{length, getD, take, drop, length-append}
+use lib.Seq.{drop-at}
+use borrow.Author.Tests.{eq-eqb}
+use Rattle.laws.specs.Choice.{else}
+use Rattle.frame.specs.declared.Address.{Address}
+use Rattle.transport.specs.declared.Kind.{Kind}
+use Rattle.transport.specs.declared.Kind.the-variants.{Rts, Bam}
+use Rattle.session.specs.declared.Session.{Session}
+use Rattle.slots.specs.declared.Slot.{Slot}
+use Rattle.slots.specs.declared.SlotState.{SlotState}
+use Rattle.slots.specs.declared.SlotState.the-variants.{Free, Open}
+use Rattle.receiver.specs.declared.Receiver.{Receiver}
+use Rattle.record_bytes.specs.declared.layout.Buffer.the-variants.{Record}
+use Rattle.record_bytes.specs.declared.layout.RecordRead.{RecordRead}
+use Rattle.record_bytes.specs.Layout.{low4, low32, kindByte, kindAt, sessionBytes, sessionAt, stateBytes, slotBytes, codesOk, slotAt, headBytes, slotsBytes, recordBytes, pieces, piecesOf, codesAll, slotsAt, isRecord, recordAt, recordOf}
+use Rattle.record_bytes.specs.Pieces.{length-slots, pieces-slots}
+
+-- Four bytes hold a number below 2^32.
+abbrev pub fourBytes : ℕ → ℕ
+fourBytes n = low32 (low4 n []) 0
+
+four-digits : (n x y z p q r s : ℕ) → n ≡ 256 * x + p → x ≡ 256 * y + q → y ≡ 256 * z + r → s ≡ z → p + 256 * q + 65536 * r + 16777216 * s ≡ n
+four-digits n x y z p q r s e f g h = omega arith
+
+by-256 : (n : ℕ) → n ≡ 256 * (n / 256) + n % 256
+by-256 n = omega arith
+
+pub low32-read-back : (n : ℕ) → n < 4294967296 → fourBytes n ≡ n
+low32-read-back n h =
+    let a : n / 256 / 256 ≡ n / 65536 = omega arith in
+    let b : n / 65536 / 256 ≡ n / 16777216 = omega arith in
+    four-digits n (n / 256) (n / 65536) (n / 16777216) _ _ _ _ (by-256 n)
+    (by-256 (n / 256) ∙ ap (λ (y : ℕ). 256 * y + n / 256 % 256) a)
+    (by-256 (n / 65536) ∙ ap (λ (y : ℕ). 256 * y + n / 65536 % 256) b)
+    (omega arith)
+
+-- The numbers are no larger than their places. (Addresses, session number and MAX SGMTS are a byte as they are.)
+pub record SessionFits (s : Session) : Type 0 where
+  pub total : s .total .0 < 4294967296
+  pub segments : s .segments .0 < 4294967296
+  pub pgn : s .pgn < 4294967296
+  pub next : s .next .0 < 4294967296
+  pub granted : s .granted .0 < 4294967296
+  pub mark : s .mark < 4294967296
+
+abbrev pub StateFits : SlotState → Type 0
+StateFits Free = Unit {0}
+StateFits (Open s) = SessionFits s
+
+abbrev pub SlotsFit : List Slot → Type 0
+SlotsFit [] = Unit {0}
+SlotsFit (s ∷ ss) = StateFits (s .state) × SlotsFit ss
+
+pub record RecordFits (r : Receiver) : Type 0 where
+  pub limit : r .limit < 4294967296
+  pub last : r .last < 4294967296
+  pub eight : length (r .slots) ≡ 8
+  pub slots : SlotsFit (r .slots)
+
+kind-back : (k : Kind) → kindAt (kindByte k) ≡ k
+kind-back Rts = refl
+kind-back Bam = refl
+
+session-back : (s : Session) → SessionFits s → sessionAt (sessionBytes s) ≡ s
+unfolding sessionBytes
+session-back s f =
+    let made : Kind → ℕ → ℕ → ℕ → ℕ → ℕ → ℕ → Session =
+    λ (k : Kind) (t g p n q m : ℕ). record { key = s .key; kind = k; total = record { 0 = t }; segments = record { 0 = g }; max = s .max; pgn = p; next = record { 0 = n }; granted = record { 0 = q }; mark = m } in
+    let W : ℕ → ℕ = fourBytes in
+    ap (λ (k : Kind). made k (W (s .total .0)) (W (s .segments .0)) (W (s .pgn)) (W (s .next .0)) (W (s .granted .0)) (W (s .mark))) (kind-back (s .kind))
+    ∙ ap (λ (x : ℕ). made (s .kind) x (W (s .segments .0)) (W (s .pgn)) (W (s .next .0)) (W (s .granted .0)) (W (s .mark))) (low32-read-back (s .total .0) (f .total))
+    ∙ ap (λ (x : ℕ). made (s .kind) (s .total .0) x (W (s .pgn)) (W (s .next .0)) (W (s .granted .0)) (W (s .mark))) (low32-read-back (s .segments .0) (f .segments))
+    ∙ ap (λ (x : ℕ). made (s .kind) (s .total .0) (s .segments .0) x (W (s .next .0)) (W (s .granted .0)) (W (s .mark))) (low32-read-back (s .pgn) (f .pgn))
+    ∙ ap (λ (x : ℕ). made (s .kind) (s .total .0) (s .segments .0) (s .pgn) x (W (s .granted .0)) (W (s .mark))) (low32-read-back (s .next .0) (f .next))
+    ∙ ap (λ (x : ℕ). made (s .kind) (s .total .0) (s .segments .0) (s .pgn) (s .next .0) x (W (s .mark))) (low32-read-back (s .granted .0) (f .granted))
+    ∙ ap (λ (x : ℕ). made (s .kind) (s .total .0) (s .segments .0) (s .pgn) (s .next .0) (s .granted .0) x) (low32-read-back (s .mark) (f .mark))
+
+state-back : (st : SlotState) → StateFits st → slotAt (stateBytes st) ≡ record { state = st }
+unfolding sessionBytes
+state-back Free f = refl
+state-back (Open s) f = ap (λ (x : Session). record { state = Open x }) (session-back s f)
+
+slots-back : (ss : List Slot) → SlotsFit ss → map slotAt (map slotBytes ss) ≡ ss
+slots-back [] f = refl
+slots-back (s ∷ ss) (p, q) =
+    ap (λ (x : Slot). x ∷ map slotAt (map slotBytes ss)) (state-back (s .state) p)
+    ∙ ap (λ (l : List Slot). s ∷ l) (slots-back ss q)
+
+kind-code : (k : Kind) → (eqb (kindByte k) 1 || eqb (kindByte k) 2) ≡ true
+kind-code Rts = refl
+kind-code Bam = refl
+
+codes-state : (st : SlotState) → codesOk (getD (stateBytes st) 0 0) (getD (stateBytes st) 1 0) ≡ true
+unfolding sessionBytes
+codes-state Free = refl
+codes-state (Open s) = kind-code (s .kind)
+
+codes-slots : (ss : List Slot) → codesAll (map slotBytes ss) ≡ true
+unfolding codesAll
+codes-slots [] = refl
+codes-slots (s ∷ ss) =
+    ap (λ (t : Bool). cond (not t) false (codesAll (map slotBytes ss))) (codes-state (s .state)) ∙ codes-slots ss
+
+module _ (r : Receiver) (f : RecordFits r) where
+  pub length-record : length (recordBytes r) ≡ 249
+  unfolding headBytes
+  length-record =
+      let a : length (slotsBytes (r .slots)) ≡ 30 * length (r .slots) = length-slots (r .slots) in
+      let e : length (r .slots) ≡ 8 = f .eight in
+      let h : length (headBytes r) ≡ 9 = refl in
+      length-append (headBytes r) (slotsBytes (r .slots)) ∙ omega arith
+
+  pieces-record : piecesOf (recordBytes r) ≡ map slotBytes (r .slots)
+  unfolding headBytes
+  pieces-record =
+      ap (λ (n : ℕ). pieces n (slotsBytes (r .slots))) (sym (f .eight)) ∙ pieces-slots (r .slots)
+
+  is-record : isRecord (recordBytes r) ≡ true
+  unfolding isRecord
+  is-record =
+      sym (else (not (eqb (length (recordBytes r)) 249)) _ _ _ (ap not (eq-eqb _ _ length-record)) refl)
+      ∙ ap codesAll pieces-record
+      ∙ codes-slots (r .slots)
+
+  record-back : recordAt (recordBytes r) ≡ r
+  unfolding headBytes
+  record-back =
+      let made : ℕ → ℕ → List Slot → Receiver = λ (n m : ℕ) (ss : List Slot). record { own = r .own; limit = n; last = m; slots = ss } in
+      ap (made (fourBytes (r .limit)) (fourBytes (r .last))) (ap (map slotAt) pieces-record ∙ slots-back (r .slots) (f .slots))
+      ∙ ap (λ (n : ℕ). made n (fourBytes (r .last)) (r .slots)) (low32-read-back (r .limit) (f .limit))
+      ∙ ap (λ (n : ℕ). made (r .limit) n (r .slots)) (low32-read-back (r .last) (f .last))
+
+  -- What is written for a record is a record, and is read as it.
+  pub read-back : recordOf (recordBytes r) ≡ record { receiver = r; answer = Record }
+  unfolding recordOf
+  read-back =
+      sym (else (not (isRecord (recordBytes r))) _ _ _ (ap not is-record) refl)
+      ∙ ap (λ (x : Receiver). record { receiver = x; answer = Record }) record-back

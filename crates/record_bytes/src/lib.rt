@@ -1,0 +1,4 @@
+// The receiver's record as bytes of a fixed layout, for a caller that is not Rattle (01, "Life of a session").
+pub mod layout;
+pub mod slot;
+pub mod word;
