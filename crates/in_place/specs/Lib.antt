@@ -1,0 +1,4 @@
+pub mod Ready
+pub mod Held
+pub mod Judged
+pub mod Seen
