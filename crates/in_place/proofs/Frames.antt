@@ -22,7 +22,7 @@ use Rattle.receiver.specs.Calls.{isReady, groupsStep, onVerdict, frameAll, fram
 use Rattle.record_bytes.specs.Layout.{isRecord, recordAt}
 use Rattle.record_bytes.specs.Keeping.{putIn}
 use Rattle.record_bytes.specs.Kept.{Bytes, keep}
-use Rattle.in_place.specs.Ready.{readyIn, Ready, ready-of}
+use Rattle.lent_record.specs.Ready.{readyIn, Ready, ready-of}
 use Rattle.in_place.specs.Seen.{Seen, groupsAnswer, seenIn, frameIn, Holds}
 
 module _ (b : List ℕ) (id : ℕ) (d m : List ℕ) (t : Bool) (et : t ≡ readyIn b (length m)) where

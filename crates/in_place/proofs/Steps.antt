@@ -22,7 +22,7 @@ use Rattle.receiver.specs.Calls.{Outcome, refused, withSlot}
 use Rattle.record_bytes.specs.Layout.{sessionBytes, sessionAt, slotAt, piecesOf, slotsAt, recordAt}
 use Rattle.record_bytes.specs.Keeping.{kept, putIn}
 use Rattle.record_bytes.specs.Kept.{keep, put-one}
-use Rattle.in_place.specs.Held.{slot-of}
+use Rattle.lent_record.specs.Held.{slot-of}
 use Rattle.in_place.specs.Seen.{Seen, seenIn, Holds}
 
 abbrev isOpen : SlotState → Bool

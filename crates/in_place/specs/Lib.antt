@@ -1,4 +1,1 @@
-pub mod Ready
-pub mod Held
-pub mod Judged
 pub mod Seen

@@ -14,7 +14,7 @@ use Rattle.receiver.specs.Calls.{Outcome, frameAll}
 use Rattle.record_bytes.specs.Layout.{isRecord, recordAt}
 use Rattle.record_bytes.specs.Keeping.{putIn}
 use Rattle.record_bytes.specs.Kept.{Bytes}
-use Rattle.in_place.specs.Ready.{readyIn}
+use Rattle.lent_record.specs.Ready.{readyIn}
 
 -- where the store stays as it is
 abbrev pub steppedIn : List ℕ → Stepped → Answer × List ℕ

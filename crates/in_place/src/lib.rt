@@ -1,5 +1,3 @@
-// The receiver on the bytes of its record, as they stand in a lent buffer (01, "Life of a session").
+// The receiver's calls on a record that stands in a lent buffer: only what a call changes is written (01, "Life of a session").
 pub mod call;
-pub mod ready;
-pub mod search;
 pub mod segment;

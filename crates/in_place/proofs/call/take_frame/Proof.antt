@@ -14,8 +14,8 @@ use Rattle.frame.proofs.judge.judge.Reads as judge-reads
 use Rattle.in_place.proofs.call.data_frame.Reads as data-frame-reads
 use Rattle.in_place.proofs.call.groups.Reads as groups-reads
 use Rattle.in_place.proofs.call.whole.Reads as whole-reads
-use Rattle.in_place.proofs.ready.is_ready.Reads as is-ready-reads
-use Rattle.in_place.proofs.ready.own_of.Reads as own-of-reads
+use Rattle.lent_record.proofs.ready.is_ready.Reads as is-ready-reads
+use Rattle.lent_record.proofs.ready.own_of.Reads as own-of-reads
 
 -- src/call.rt:66:9
 is-ready-requires : tie.Need-is-ready-requires

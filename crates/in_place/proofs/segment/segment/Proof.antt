@@ -12,8 +12,8 @@ use Rattle.in_place.proofs.segment.segment.Statement.{statement}
 use Rattle.in_place.proofs.segment.segment.Tie as tie
 use Rattle.in_place.proofs.segment.segment.Reads as reads
 use Rattle.in_place.proofs.segment.segment.Lts as lts
-use Rattle.in_place.proofs.search.find_key.Reads as find-key-reads
-use Rattle.in_place.proofs.search.slot_in.Reads as slot-in-reads
+use Rattle.lent_record.proofs.search.find_key.Reads as find-key-reads
+use Rattle.lent_record.proofs.search.slot_in.Reads as slot-in-reads
 use Rattle.in_place.proofs.segment.segment_open.Reads as segment-open-reads
 
 -- src/segment.rt:113:9

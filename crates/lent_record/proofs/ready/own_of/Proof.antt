@@ -1,8 +1,8 @@
 use native.Mathlib.Omega.{arith}
 use mathlib.Core.Path.{refl}
 use borrow.Author.Needs.{needs}
-use Rattle.in_place.proofs.ready.own_of.Statement.{statement}
-use Rattle.in_place.proofs.ready.own_of.Tie as tie
+use Rattle.lent_record.proofs.ready.own_of.Statement.{statement}
+use Rattle.lent_record.proofs.ready.own_of.Tie as tie
 
 shared-slice-read-t3 : tie.Need-shared-slice-read-t3
 shared-slice-read-t3 c = search needs

@@ -9,10 +9,10 @@ use Rattle.laws.specs.Choice.{and-next, and-stop, or-next, or-stop}
 use Rattle.laws.specs.Turn.{end}
 use Rattle.record_bytes.specs.Layout.{piecesOf}
 use Rattle.record_bytes.specs.Pieces.{length-pieces}
-use Rattle.in_place.specs.Judged.{piecesReady, ready-turn}
+use Rattle.lent_record.specs.Judged.{piecesReady, ready-turn}
 use borrow.Author.Needs.{needs}
-use Rattle.in_place.proofs.ready.slots_ready.Statement.{statement}
-use Rattle.in_place.proofs.ready.slots_ready.Tie as tie
+use Rattle.lent_record.proofs.ready.slots_ready.Statement.{statement}
+use Rattle.lent_record.proofs.ready.slots_ready.Tie as tie
 
 abbrev Inv-loop : tie.InvT-loop
 Inv-loop bytes own i₀ i = (length bytes ≡ 249) × (i ≤ 8) × (piecesReady own (drop i (piecesOf bytes)) ≡ piecesReady own (piecesOf bytes))

@@ -7,10 +7,10 @@ use Rattle.laws.specs.Choice.{then, else}
 use Rattle.laws.specs.Turn.{turn, end}
 use Rattle.slots.specs.Slots.{freeSlot, holdsKey, firstAt, keyPlace}
 use Rattle.record_bytes.specs.Layout.{slotsAt}
-use Rattle.in_place.specs.Held.{length-slots}
+use Rattle.lent_record.specs.Held.{length-slots}
 use borrow.Author.Needs.{needs}
-use Rattle.in_place.proofs.search.find_key.Statement.{statement}
-use Rattle.in_place.proofs.search.find_key.Tie as tie
+use Rattle.lent_record.proofs.search.find_key.Statement.{statement}
+use Rattle.lent_record.proofs.search.find_key.Tie as tie
 
 abbrev Inv-loop : tie.InvT-loop
 Inv-loop bytes k i₀ i = (length bytes ≡ 249) × (i ≤ 8) × (firstAt (holdsKey k) i (drop i (slotsAt bytes)) ≡ keyPlace k (slotsAt bytes))

@@ -6,12 +6,12 @@ use lib.ListN.{take, drop}
 use denote.Ref.{now}
 use Rattle.record_bytes.specs.Layout.{slotAt}
 use Rattle.record_bytes.specs.Pieces.{piece-of}
-use Rattle.in_place.specs.Held.{slot-of}
+use Rattle.lent_record.specs.Held.{slot-of}
 use borrow.Author.Needs.{needs}
-use Rattle.in_place.proofs.search.slot_in.Statement.{statement}
-use Rattle.in_place.proofs.search.slot_in.Tie as tie
-use Rattle.in_place.proofs.search.slot_in.Reads as reads
-use Rattle.in_place.proofs.search.slot_in.Lts as lts
+use Rattle.lent_record.proofs.search.slot_in.Statement.{statement}
+use Rattle.lent_record.proofs.search.slot_in.Tie as tie
+use Rattle.lent_record.proofs.search.slot_in.Reads as reads
+use Rattle.lent_record.proofs.search.slot_in.Lts as lts
 use Rattle.record_bytes.proofs.slot.slot_at.Reads as slot-at-reads
 
 -- src/search.rt:66:27

@@ -16,7 +16,7 @@ use Rattle.slots.specs.Bounds.{openingOk, sessionOk, stateOk, anyHolds, stateTw
 use Rattle.receiver.specs.Bounds.{inBounds}
 use Rattle.record_bytes.specs.Layout.{codesOk, sessionAt, slotAt, piecesOf, slotsAt, codesAll, isRecord, recordAt}
 use Rattle.record_bytes.specs.Pieces.{length-pieces, piece-of, byte-of}
-use Rattle.in_place.specs.Ready.{readyIn}
+use Rattle.lent_record.specs.Ready.{readyIn}
 
 -- a slot whose first byte is not 0, with the pieces after it
 unfoldable pub openReady : Address → List ℕ → List (List ℕ) → Bool

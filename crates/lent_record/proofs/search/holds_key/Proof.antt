@@ -1,8 +1,8 @@
 use denote.Ref.{now}
-use Rattle.in_place.specs.Held.{held}
+use Rattle.lent_record.specs.Held.{held}
 use borrow.Author.Needs.{needs}
-use Rattle.in_place.proofs.search.holds_key.Statement.{statement}
-use Rattle.in_place.proofs.search.holds_key.Tie as tie
+use Rattle.lent_record.proofs.search.holds_key.Statement.{statement}
+use Rattle.lent_record.proofs.search.holds_key.Tie as tie
 
 mul-at : tie.Need-mul-at
 mul-at c = search needs

@@ -5,10 +5,10 @@ use denote.Ref.{now}
 use native.Mathlib.Omega.{arith}
 use borrow.Author.Tests.{not-true, not-false}
 use Rattle.record_bytes.specs.Layout.{sessionAt}
-use Rattle.in_place.specs.Judged.{no-codes, no-bounds, no-twin}
+use Rattle.lent_record.specs.Judged.{no-codes, no-bounds, no-twin}
 use borrow.Author.Needs.{needs}
-use Rattle.in_place.proofs.ready.open_ready.Statement.{statement}
-use Rattle.in_place.proofs.ready.open_ready.Tie as tie
+use Rattle.lent_record.proofs.ready.open_ready.Statement.{statement}
+use Rattle.lent_record.proofs.ready.open_ready.Tie as tie
 
 mul-at : tie.Need-mul-at
 mul-at c = search needs

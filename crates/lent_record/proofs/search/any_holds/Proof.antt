@@ -8,10 +8,10 @@ use Rattle.laws.specs.Turn.{turn, end}
 use Rattle.slots.specs.Slots.{freeSlot}
 use Rattle.slots.specs.Bounds.{anyHolds}
 use Rattle.record_bytes.specs.Layout.{slotsAt}
-use Rattle.in_place.specs.Held.{length-slots}
+use Rattle.lent_record.specs.Held.{length-slots}
 use borrow.Author.Needs.{needs}
-use Rattle.in_place.proofs.search.any_holds.Statement.{statement}
-use Rattle.in_place.proofs.search.any_holds.Tie as tie
+use Rattle.lent_record.proofs.search.any_holds.Statement.{statement}
+use Rattle.lent_record.proofs.search.any_holds.Tie as tie
 
 abbrev Inv-loop : tie.InvT-loop
 Inv-loop bytes from k j₀ j = (length bytes ≡ 249) × (j ≤ 8) × (anyHolds k (drop j (slotsAt bytes)) ≡ anyHolds k (drop from (slotsAt bytes)))

@@ -7,10 +7,10 @@ use Rattle.laws.specs.Choice.{and-next, and-stop}
 use Rattle.record_bytes.specs.Layout.{piecesOf, recordAt}
 use Rattle.slots.specs.Bounds.{openingOk}
 use Rattle.frame.specs.declared.Address.{Address}
-use Rattle.in_place.specs.Judged.{piecesReady, ready-in}
+use Rattle.lent_record.specs.Judged.{piecesReady, ready-in}
 use borrow.Author.Needs.{needs}
-use Rattle.in_place.proofs.ready.is_ready.Statement.{statement}
-use Rattle.in_place.proofs.ready.is_ready.Tie as tie
+use Rattle.lent_record.proofs.ready.is_ready.Statement.{statement}
+use Rattle.lent_record.proofs.ready.is_ready.Tie as tie
 
 returns : tie.Need-returns
 returns c =
