@@ -6,6 +6,9 @@ ghost use lib.Seq.{paste};
 ghost use Rattle.transport.specs.Segments.{dataAt};
 use super::SLOT_BYTES;
 
+// The data of every segment but the last.
+const SEGMENT_BYTES: usize = 60;
+
 // Copies n bytes of a data frame's data into part from at on.
 fn copy_in(part: &mut [u8], at: usize, bytes: &[u8], n: usize)
     requires { ⌜ (at + n ≤ length (now part)) × (4 + n ≤ length (now bytes)) ⌝ }
@@ -18,6 +21,18 @@ fn copy_in(part: &mut [u8], at: usize, bytes: &[u8], n: usize)
     }
 }
 
+// The same. A whole segment goes by itself, so that its length is known where its copy is compiled.
+fn copy_data(part: &mut [u8], at: usize, bytes: &[u8], n: usize)
+    requires { ⌜ (at + n ≤ length (now part)) × (4 + n ≤ length (now bytes)) ⌝ }
+    ensures { λ _. ⌜ now (part .exit) ≡ paste (now (part .entry)) at (dataAt (now (bytes .entry))) n ⌝ }
+{
+    if n == SEGMENT_BYTES {
+        copy_in(part, at, bytes, SEGMENT_BYTES);
+        return;
+    }
+    copy_in(part, at, bytes, n);
+}
+
 // Copies n bytes of a data frame's data to the place at of a slot.
 pub fn store_segment(store: &mut [u8], slot: usize, at: usize, bytes: &[u8], n: usize)
     requires { ⌜ (slot < 8) × (at + n ≤ 4096) × (4 + n ≤ length (now bytes)) × (length (now store) ≡ 32768) ⌝ }
@@ -25,5 +40,5 @@ pub fn store_segment(store: &mut [u8], slot: usize, at: usize, bytes: &[u8], n: 
 {
     let base = SLOT_BYTES * slot;
     let end = base + SLOT_BYTES;
-    copy_in(&mut store[base..end], at, bytes, n);
+    copy_data(&mut store[base..end], at, bytes, n);
 }
