@@ -7,7 +7,7 @@ use mathlib.Core.List.{List, [], _∷_, map}
 use lib.Dec.{eqb}
 use lib.ListN.{length, getD, take, drop}
 use borrow.Author.Tests.{eqb-true}
-use Rattle.laws.specs.Turn.{turn}
+use Rattle.laws.specs.Turn.{turn, end}
 use Rattle.frame.specs.declared.Address.{Address}
 use Rattle.session.specs.declared.Session.{Session}
 use Rattle.slots.specs.declared.Slot.{Slot}
@@ -58,9 +58,13 @@ pieces-ready own (p ∷ ps) =
     ap (λ (t : Bool). (eqb n 0 || (codesOk n k && sessionOk own (sessionAt p) && not (anyHolds (sessionAt p .key) (map slotAt ps)))) && t) (pieces-ready own ps)
     ∙ by-code own (sessionAt p) (map slotAt ps) (eqb n 0) (eqb n 1) (eqb k 1 || eqb k 2) (codesAll ps) (slotsOk own (map slotAt ps)) (two-codes n)
 
--- what is left to judge from slot i on
-pub ready-turn : (own : Address) (b : List ℕ) (i : ℕ) → i < 8
-    → piecesReady own (drop i (piecesOf b)) ≡ ((eqb (getD b (9 + 30 * i) 0) 0 || openReady own (getD (piecesOf b) i []) (drop (i + 1) (piecesOf b))) && piecesReady own (drop (i + 1) (piecesOf b)))
+-- slot i, and those behind it
+abbrev pub readyAt : Address → List ℕ → ℕ → Bool
+readyAt own b i =
+    eqb (getD b (9 + 30 * i) 0) 0 || openReady own (getD (piecesOf b) i []) (drop (i + 1) (piecesOf b))
+
+ready-turn : (own : Address) (b : List ℕ) (i : ℕ) → i < 8
+    → piecesReady own (drop i (piecesOf b)) ≡ (readyAt own b i && piecesReady own (drop (i + 1) (piecesOf b)))
 unfolding piecesReady
 ready-turn own b i h =
     let at : ℕ = 9 + 30 * i in
@@ -68,6 +72,43 @@ ready-turn own b i h =
     let e : at + 0 ≡ at = omega arith in
     turn (piecesReady own) (piecesOf b) i [] (omega (arith, length-pieces 8 (drop 9 b)))
     ∙ ap (λ (x : ℕ). (eqb x 0 || openReady own (getD (piecesOf b) i []) ps) && piecesReady own ps) (byte-of b i 0 h (omega arith) ∙ ap (λ (m : ℕ). getD b m 0) e)
+
+and-true : (a r : Bool) → r ≡ true → a ≡ (a && r)
+and-true true r e = sym e
+and-true false r e = refl
+
+pub and-same : {a b x y : Bool} → a ≡ x → b ≡ y → (a && b) ≡ (x && y)
+and-same p q = rw (p, q)
+
+and-four : (a b c d r : Bool) → (a && (b && (c && (d && r)))) ≡ ((a && b && c && d) && r)
+and-four true true true d r = refl
+and-four true true false d r = refl
+and-four true false c d r = refl
+and-four false b c d r = refl
+
+pub four-turn : (own : Address) (b : List ℕ) (i : ℕ) → i < 5
+    → piecesReady own (drop i (piecesOf b)) ≡ ((readyAt own b i && readyAt own b (i + 1) && readyAt own b (i + 2) && readyAt own b (i + 3)) && piecesReady own (drop (i + 4) (piecesOf b)))
+four-turn own b i h =
+    let A : ℕ → Bool = readyAt own b in
+    let R : ℕ → Bool = λ (n : ℕ). piecesReady own (drop n (piecesOf b)) in
+    let on : (n m : ℕ) → n < 8 → n + 1 ≡ m → R n ≡ (A n && R m) = λ n m l e. ready-turn own b n l ∙ ap (λ (k : ℕ). A n && R k) e in
+    on i (i + 1) (omega arith) refl
+    ∙ ap (λ (t : Bool). A i && t) (on (i + 1) (i + 2) (omega arith) (omega arith)
+    ∙ ap (λ (t : Bool). A (i + 1) && t) (on (i + 2) (i + 3) (omega arith) (omega arith) ∙ ap (λ (t : Bool). A (i + 2) && t) (on (i + 3) (i + 4) (omega arith) (omega arith))))
+    ∙ and-four (A i) (A (i + 1)) (A (i + 2)) (A (i + 3)) (R (i + 4))
+
+-- all eight
+pub eight-ready : (own : Address) (b : List ℕ) (x y : Bool)
+    → x ≡ (readyAt own b 0 && readyAt own b 1 && readyAt own b 2 && readyAt own b 3)
+    → y ≡ (readyAt own b 4 && readyAt own b 5 && readyAt own b 6 && readyAt own b 7)
+    → (x && y) ≡ piecesReady own (piecesOf b)
+unfolding piecesReady
+eight-ready own b x y ex ey =
+    let last : Bool = piecesReady own (drop 8 (piecesOf b)) in
+    let none : last ≡ true = end (piecesReady own) (piecesOf b) 8 (omega (arith, length-pieces 8 (drop 9 b))) in
+    ap (λ (t : Bool). t && y) ex
+    ∙ ap (λ (t : Bool). (readyAt own b 0 && readyAt own b 1 && readyAt own b 2 && readyAt own b 3) && t) (ey ∙ and-true (readyAt own b 4 && readyAt own b 5 && readyAt own b 6 && readyAt own b 7) last none ∙ sym (four-turn own b 4 (omega arith)))
+    ∙ sym (four-turn own b 0 (omega arith))
 
 -- ---- slot i by what was read of it: its two codes, its session, and whether its key is open behind it
 
