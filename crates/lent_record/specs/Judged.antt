@@ -63,6 +63,9 @@ abbrev pub readyAt : Address → List ℕ → ℕ → Bool
 readyAt own b i =
     eqb (getD b (9 + 30 * i) 0) 0 || openReady own (getD (piecesOf b) i []) (drop (i + 1) (piecesOf b))
 
+abbrev pub twoReady : Address → List ℕ → ℕ → Bool
+twoReady own b i = readyAt own b i && readyAt own b (i + 1)
+
 ready-turn : (own : Address) (b : List ℕ) (i : ℕ) → i < 8
     → piecesReady own (drop i (piecesOf b)) ≡ (readyAt own b i && piecesReady own (drop (i + 1) (piecesOf b)))
 unfolding piecesReady
@@ -77,6 +80,10 @@ and-true : (a r : Bool) → r ≡ true → a ≡ (a && r)
 and-true true r e = sym e
 and-true false r e = refl
 
+and-assoc : (a b c : Bool) → ((a && b) && c) ≡ (a && (b && c))
+and-assoc true b c = refl
+and-assoc false b c = refl
+
 pub and-same : {a b x y : Bool} → a ≡ x → b ≡ y → (a && b) ≡ (x && y)
 and-same p q = rw (p, q)
 
@@ -86,29 +93,31 @@ and-four true true false d r = refl
 and-four true false c d r = refl
 and-four false b c d r = refl
 
-pub four-turn : (own : Address) (b : List ℕ) (i : ℕ) → i < 5
-    → piecesReady own (drop i (piecesOf b)) ≡ ((readyAt own b i && readyAt own b (i + 1) && readyAt own b (i + 2) && readyAt own b (i + 3)) && piecesReady own (drop (i + 4) (piecesOf b)))
-four-turn own b i h =
+two-turn : (own : Address) (b : List ℕ) (i : ℕ) → i < 7
+    → piecesReady own (drop i (piecesOf b)) ≡ (twoReady own b i && piecesReady own (drop (i + 2) (piecesOf b)))
+two-turn own b i h =
     let A : ℕ → Bool = readyAt own b in
     let R : ℕ → Bool = λ (n : ℕ). piecesReady own (drop n (piecesOf b)) in
-    let on : (n m : ℕ) → n < 8 → n + 1 ≡ m → R n ≡ (A n && R m) = λ n m l e. ready-turn own b n l ∙ ap (λ (k : ℕ). A n && R k) e in
-    on i (i + 1) (omega arith) refl
-    ∙ ap (λ (t : Bool). A i && t) (on (i + 1) (i + 2) (omega arith) (omega arith)
-    ∙ ap (λ (t : Bool). A (i + 1) && t) (on (i + 2) (i + 3) (omega arith) (omega arith) ∙ ap (λ (t : Bool). A (i + 2) && t) (on (i + 3) (i + 4) (omega arith) (omega arith))))
-    ∙ and-four (A i) (A (i + 1)) (A (i + 2)) (A (i + 3)) (R (i + 4))
+    let e : i + 1 + 1 ≡ i + 2 = omega arith in
+    ready-turn own b i (omega arith)
+    ∙ ap (λ (t : Bool). A i && t) (ready-turn own b (i + 1) (omega arith) ∙ ap (λ (n : ℕ). A (i + 1) && R n) e)
+    ∙ sym (and-assoc (A i) (A (i + 1)) (R (i + 2)))
 
 -- all eight
-pub eight-ready : (own : Address) (b : List ℕ) (x y : Bool)
-    → x ≡ (readyAt own b 0 && readyAt own b 1 && readyAt own b 2 && readyAt own b 3)
-    → y ≡ (readyAt own b 4 && readyAt own b 5 && readyAt own b 6 && readyAt own b 7)
-    → (x && y) ≡ piecesReady own (piecesOf b)
+pub eight-ready : (own : Address) (b : List ℕ) (x y z w : Bool) → x ≡ twoReady own b 0 → y ≡ twoReady own b 2 → z ≡ twoReady own b 4 → w ≡ twoReady own b 6
+    → (x && y && z && w) ≡ piecesReady own (piecesOf b)
 unfolding piecesReady
-eight-ready own b x y ex ey =
-    let last : Bool = piecesReady own (drop 8 (piecesOf b)) in
-    let none : last ≡ true = end (piecesReady own) (piecesOf b) 8 (omega (arith, length-pieces 8 (drop 9 b))) in
-    ap (λ (t : Bool). t && y) ex
-    ∙ ap (λ (t : Bool). (readyAt own b 0 && readyAt own b 1 && readyAt own b 2 && readyAt own b 3) && t) (ey ∙ and-true (readyAt own b 4 && readyAt own b 5 && readyAt own b 6 && readyAt own b 7) last none ∙ sym (four-turn own b 4 (omega arith)))
-    ∙ sym (four-turn own b 0 (omega arith))
+eight-ready own b x y z w ex ey ez ew =
+    let T : ℕ → Bool = twoReady own b in
+    let R : ℕ → Bool = λ (n : ℕ). piecesReady own (drop n (piecesOf b)) in
+    let none : R 8 ≡ true = end (piecesReady own) (piecesOf b) 8 (omega (arith, length-pieces 8 (drop 9 b))) in
+    and-same (and-same (and-same ex ey) ez) ew
+    ∙ and-true (T 0 && T 2 && T 4 && T 6) (R 8) none
+    ∙ sym (and-four (T 0) (T 2) (T 4) (T 6) (R 8))
+    ∙ ap (λ (t : Bool). T 0 && (T 2 && (T 4 && t))) (sym (two-turn own b 6 (omega arith)))
+    ∙ ap (λ (t : Bool). T 0 && (T 2 && t)) (sym (two-turn own b 4 (omega arith)))
+    ∙ ap (λ (t : Bool). T 0 && t) (sym (two-turn own b 2 (omega arith)))
+    ∙ sym (two-turn own b 0 (omega arith))
 
 -- ---- slot i by what was read of it: its two codes, its session, and whether its key is open behind it
 

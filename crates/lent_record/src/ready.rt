@@ -1,12 +1,11 @@
 // Whether a lent buffer is a record in bounds: each call asks it first (01, "Numbered refusals", 23).
 ghost use mathlib.Core.Path.{_≡_};
-ghost use mathlib.Core.Bool.{_&&_};
 ghost use Prim.Native.Nat.{ℕ, _+_, _<_, _≤_};
 ghost use mathlib.Core.List.{[]};
 ghost use lib.ListN.{length, getD, drop};
 ghost use Rattle.record_bytes.specs.Layout.{piecesOf};
 ghost use Rattle.lent_record.specs.Ready.{readyIn};
-ghost use Rattle.lent_record.specs.Judged.{openReady, readyAt, piecesReady};
+ghost use Rattle.lent_record.specs.Judged.{openReady, twoReady, piecesReady};
 use super::search::any_holds;
 use frame::Address;
 use receiver::Receiver;
@@ -44,33 +43,32 @@ fn open_ready(bytes: &[u8], i: usize, own: Address) -> bool
     !any_holds(bytes, i + 1, s.key)
 }
 
-// Slot i: a free one costs one byte's test.
-fn slot_ready(bytes: &[u8], i: usize, own: Address) -> bool
-    requires { ⌜ (length (now bytes) ≡ 249) × (i < 8) ⌝ }
-    ensures { λ r. ⌜ r ≡ readyAt own (now (bytes .entry)) i ⌝ }
+// Slots i and i + 1: a free one costs one byte's test.
+fn two_ready(bytes: &[u8], i: usize, own: Address) -> bool
+    requires { ⌜ (length (now bytes) ≡ 249) × (i < 7) ⌝ }
+    ensures { λ r. ⌜ r ≡ twoReady own (now (bytes .entry)) i ⌝ }
 {
-    if bytes[HEAD_BYTES + SLOT_BYTES * i] == 0 {
+    let at = HEAD_BYTES + SLOT_BYTES * i;
+    if bytes[at] != 0 {
+        if !open_ready(bytes, i, own) {
+            return false;
+        }
+    }
+    if bytes[at + SLOT_BYTES] == 0 {
         return true;
     }
-    open_ready(bytes, i, own)
+    open_ready(bytes, i + 1, own)
 }
 
-// Four slots from i on. By fours and not in a loop: where i is known, so is the place of each slot.
-fn four_ready(bytes: &[u8], i: usize, own: Address) -> bool
-    requires { ⌜ (length (now bytes) ≡ 249) × (i < 5) ⌝ }
-    ensures { λ r. ⌜ r ≡ (readyAt own (now (bytes .entry)) i && readyAt own (now (bytes .entry)) (i + 1) && readyAt own (now (bytes .entry)) (i + 2) && readyAt own (now (bytes .entry)) (i + 3)) ⌝ }
-{
-    slot_ready(bytes, i, own)
-        & slot_ready(bytes, i + 1, own)
-        & slot_ready(bytes, i + 2, own)
-        & slot_ready(bytes, i + 3, own)
-}
-
+// All eight, by twos and not in a loop: the place of each slot is then known where this is compiled.
 fn slots_ready(bytes: &[u8], own: Address) -> bool
     requires { ⌜ length (now bytes) ≡ 249 ⌝ }
     ensures { λ r. ⌜ r ≡ piecesReady own (piecesOf (now (bytes .entry))) ⌝ }
 {
-    four_ready(bytes, 0, own) & four_ready(bytes, 4, own)
+    two_ready(bytes, 0, own)
+        & two_ready(bytes, 2, own)
+        & two_ready(bytes, 4, own)
+        & two_ready(bytes, 6, own)
 }
 
 // Whether the buffer is a record in bounds, and a store of so many bytes has the right length.

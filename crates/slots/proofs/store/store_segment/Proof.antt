@@ -15,17 +15,17 @@ mul-base c = search needs
 add-end : tie.Need-add-end
 add-end c = search needs
 
-sub-copy-data : tie.Need-sub-copy-data
-sub-copy-data c = search needs
+sub-copy-in : tie.Need-sub-copy-in
+sub-copy-in c = search needs
 
-part-copy-data-start : tie.Need-part-copy-data-start
-part-copy-data-start c = search needs
+part-copy-in-start : tie.Need-part-copy-in-start
+part-copy-in-start c = search needs
 
-part-copy-data-end : tie.Need-part-copy-data-end
-part-copy-data-end c = search needs
+part-copy-in-end : tie.Need-part-copy-in-end
+part-copy-in-end c = search needs
 
-copy-data-requires : tie.Need-copy-data-requires
-copy-data-requires c κs = search needs
+copy-in-requires : tie.Need-copy-in-requires
+copy-in-requires c κs = search needs
 
 same-length : tie.Need-same-length
 same-length c = search needs
@@ -35,7 +35,7 @@ returns c =
     let a = c .before .before .before .before .before .before .args in
     let base : ℕ = 4096 * a .slot in
     let k : ℕ = base + 4096 - base in
-    ap (putMid base k (now (a .store))) (c .before .before .copy-data .ensures)
+    ap (putMid base k (now (a .store))) (c .before .before .copy-in .ensures)
     ∙ paste-part (now (a .store)) base k (a .at) (dataAt (now (a .bytes))) (a .n) (omega arith) (omega arith)
 
 pub store-segment-spec : {M : Type 1} → statement M
@@ -44,9 +44,9 @@ store-segment-spec =
     (tie.spec
     mul-base
     add-end
-    sub-copy-data
-    part-copy-data-start
-    part-copy-data-end
-    copy-data-requires
+    sub-copy-in
+    part-copy-in-start
+    part-copy-in-end
+    copy-in-requires
     same-length
     returns)
