@@ -1,0 +1,4 @@
+pub mod Unpacking
+pub mod Places
+pub mod Rows
+pub mod Count
