@@ -49,11 +49,12 @@ pub fn fill(frame: &[u8], out: &mut [u32]) -> Unpacked
         at = start + len as usize;
     }
     match step(frame, at) {
+        Step::End => Unpacked::Groups(count),
         Step::Fault(r) => {
             put_back(out, &kept, 3 * count);
             Unpacked::Refused(r)
         }
-        // no group stands here, so it is the end
-        _ => Unpacked::Groups(count),
+        // not met: the loop goes on where a group stands
+        Step::At(_) => Unpacked::Groups(count),
     }
 }

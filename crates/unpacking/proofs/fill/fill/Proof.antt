@@ -1,148 +1,127 @@
+use Prim.Native.Nat.{ℕ, _+_, _*_, _-_, _≤_, _<_}
+use native.Mathlib.Omega.{arith}
+use mathlib.Core.Path.{_≡_, refl, sym, _∙_}
+use lib.ListN.{length}
+use denote.Ref.{now}
+use Rattle.unpacking.specs.Places.{is-plain}
+use Rattle.unpacking.proofs.Turns.{Filled, filled-none, row-room, filled-turn, filled-end, filled-fault, filled-not}
+use borrow.Author.Needs.{needs}
 use Rattle.unpacking.proofs.fill.fill.Statement.{statement}
 use Rattle.unpacking.proofs.fill.fill.Tie as tie
-use Rattle.unpacking.proofs.fill.fill.Reads as reads
-use Rattle.unpacking.proofs.fill.fill.Lts as lts
-use Rattle.frame.proofs.octet.wide.Reads as wide-reads
-use Rattle.multi_pg.proofs.read.pgn_of.Reads as pgn-of-reads
-use Rattle.multi_pg.proofs.read.step.Reads as step-reads
-use Rattle.unpacking.proofs.place.is_group.Reads as is-group-reads
-use Rattle.unpacking.proofs.row.keep.Reads as keep-reads
-use Rattle.unpacking.proofs.row.put_back.Reads as put-back-reads
-use Rattle.unpacking.proofs.row.write.Reads as write-reads
 
 abbrev Inv-loop : tie.InvT-loop
-Inv-loop frame out₀ kept₀ count₀ at₀ out kept count at = ?
+Inv-loop frame out₀ kept₀ count₀ at₀ out kept count at = Filled frame out₀ out kept count at
 
 abbrev μ-loop : tie.MeasureT-loop
-μ-loop frame out₀ kept₀ count₀ at₀ out kept count at = ?
+μ-loop frame out₀ kept₀ count₀ at₀ out kept count at = length frame - at
 
--- src/fill.rt:42:5
 loop-holds : tie.Need-loop-holds Inv-loop μ-loop
-loop-holds c = ?
+loop-holds c = filled-none (c .before .before .args .frame .now) (now (c .before .before .args .out)) _ (c .before .before .pre .0) (c .before .before .pre .1) (search needs)
 
--- src/fill.rt:42:11
 is-group-requires : tie.Need-is-group-requires Inv-loop μ-loop
-is-group-requires c κs = ?
+is-group-requires c κs = c .loop .inv .inside
 
--- src/fill.rt:43:26
 shared-slice-read-pgn-of : tie.Need-shared-slice-read-pgn-of Inv-loop μ-loop
-shared-slice-read-pgn-of c = ?
+shared-slice-read-pgn-of c = let p = is-plain (c .before .before .before .before .before .before .args .frame .now) (c .before .before .before .loop .at) (sym (c .before .before .is-group .ensures) ∙ c .before .if1 .taken) in omega (arith, p .whole)
 
--- src/fill.rt:43:43
 add-pgn-of : tie.Need-add-pgn-of Inv-loop μ-loop
-add-pgn-of c = ?
+add-pgn-of c = let p = is-plain (c .before .before .before .before .before .before .args .frame .now) (c .before .before .before .loop .at) (sym (c .before .before .is-group .ensures) ∙ c .before .if1 .taken) in omega (arith, p .whole)
 
--- src/fill.rt:43:37
 shared-slice-read-pgn-of-2 : tie.Need-shared-slice-read-pgn-of-2 Inv-loop μ-loop
-shared-slice-read-pgn-of-2 c = ?
+shared-slice-read-pgn-of-2 c = let p = is-plain (c .before .before .before .before .before .before .before .args .frame .now) (c .before .before .before .before .loop .at) (sym (c .before .before .before .is-group .ensures) ∙ c .before .before .if1 .taken) in omega (arith, p .whole)
 
--- src/fill.rt:43:58
 add-pgn-of-2 : tie.Need-add-pgn-of-2 Inv-loop μ-loop
-add-pgn-of-2 c = ?
+add-pgn-of-2 c = let p = is-plain (c .before .before .before .before .before .before .before .args .frame .now) (c .before .before .before .before .loop .at) (sym (c .before .before .before .is-group .ensures) ∙ c .before .before .if1 .taken) in omega (arith, p .whole)
 
--- src/fill.rt:43:52
 shared-slice-read-pgn-of-3 : tie.Need-shared-slice-read-pgn-of-3 Inv-loop μ-loop
-shared-slice-read-pgn-of-3 c = ?
+shared-slice-read-pgn-of-3 c = let p = is-plain (c .before .before .before .before .before .before .before .before .args .frame .now) (c .before .before .before .before .before .loop .at) (sym (c .before .before .before .before .is-group .ensures) ∙ c .before .before .before .if1 .taken) in omega (arith, p .whole)
 
--- src/fill.rt:43:13
 pgn-of-requires : tie.Need-pgn-of-requires Inv-loop μ-loop
-pgn-of-requires c κs = ?
+pgn-of-requires c κs = search needs
 
--- src/fill.rt:44:30
 add-wide : tie.Need-add-wide Inv-loop μ-loop
-add-wide c = ?
+add-wide c = let p = is-plain (c .before .before .before .before .before .before .before .before .before .args .frame .now) (c .before .before .before .before .before .before .loop .at) (sym (c .before .before .before .before .before .is-group .ensures) ∙ c .before .before .before .before .if1 .taken) in omega (arith, p .whole)
 
--- src/fill.rt:44:24
 shared-slice-read-wide : tie.Need-shared-slice-read-wide Inv-loop μ-loop
-shared-slice-read-wide c = ?
+shared-slice-read-wide c = let p = is-plain (c .before .before .before .before .before .before .before .before .before .before .args .frame .now) (c .before .before .before .before .before .before .before .loop .at) (sym (c .before .before .before .before .before .before .is-group .ensures) ∙ c .before .before .before .before .before .if1 .taken) in omega (arith, p .whole)
 
--- src/fill.rt:44:13
 wide-requires : tie.Need-wide-requires Inv-loop μ-loop
-wide-requires c κs = ?
+wide-requires c κs = search needs
 
--- src/fill.rt:45:21
 add-start : tie.Need-add-start Inv-loop μ-loop
-add-start c = ?
+add-start c = let p = is-plain (c .before .before .before .before .before .before .before .before .before .before .before .args .frame .now) (c .before .before .before .before .before .before .before .before .loop .at) (sym (c .before .before .before .before .before .before .before .is-group .ensures) ∙ c .before .before .before .before .before .before .if1 .taken) in omega (arith, p .whole)
 
--- src/fill.rt:46:19
 mul-keep : tie.Need-mul-keep Inv-loop μ-loop
-mul-keep c = ?
+mul-keep c = let r = row-room (c .before .before .before .before .before .before .before .before .before .before .before .before .args .frame .now) (now (c .before .before .before .before .before .before .before .before .before .before .before .before .args .out)) (c .before .before .before .before .before .before .before .before .before .loop .out) (c .before .before .before .before .before .before .before .before .before .loop .kept) (c .before .before .before .before .before .before .before .before .before .loop .count) (c .before .before .before .before .before .before .before .before .before .loop .at) (c .before .before .before .before .before .before .before .before .before .before .before .before .pre .0) (c .before .before .before .before .before .before .before .before .before .loop .inv) (is-plain (c .before .before .before .before .before .before .before .before .before .before .before .before .args .frame .now) (c .before .before .before .before .before .before .before .before .before .loop .at) (sym (c .before .before .before .before .before .before .before .before .is-group .ensures) ∙ c .before .before .before .before .before .before .before .if1 .taken)) in omega arith
 
--- src/fill.rt:46:30
 slice-aggregate-keep : tie.Need-slice-aggregate-keep Inv-loop μ-loop
-slice-aggregate-keep c = ?
+slice-aggregate-keep c = sym (c .before .before .before .before .before .before .before .before .before .before .loop .inv .keeps)
 
--- src/fill.rt:46:9
 keep-requires : tie.Need-keep-requires Inv-loop μ-loop
-keep-requires c κs = ?
+keep-requires c κs = let r = row-room (c .before .before .before .before .before .before .before .before .before .before .before .before .before .args .frame .now) (now (c .before .before .before .before .before .before .before .before .before .before .before .before .before .args .out)) (c .before .before .before .before .before .before .before .before .before .before .loop .out) (c .before .before .before .before .before .before .before .before .before .before .loop .kept) (c .before .before .before .before .before .before .before .before .before .before .loop .count) (c .before .before .before .before .before .before .before .before .before .before .loop .at) (c .before .before .before .before .before .before .before .before .before .before .before .before .before .pre .0) (c .before .before .before .before .before .before .before .before .before .before .loop .inv) (is-plain (c .before .before .before .before .before .before .before .before .before .before .before .before .before .args .frame .now) (c .before .before .before .before .before .before .before .before .before .before .loop .at) (sym (c .before .before .before .before .before .before .before .before .before .is-group .ensures) ∙ c .before .before .before .before .before .before .before .before .if1 .taken)) in (omega (arith, c .before .before .before .before .before .before .before .before .before .before .loop .inv .long), omega (arith, c .before .before .before .before .before .before .before .before .before .before .loop .inv .keeps))
 
--- src/fill.rt:47:20
 mul-write : tie.Need-mul-write Inv-loop μ-loop
-mul-write c = ?
+mul-write c = let r = row-room (c .before .before .before .before .before .before .before .before .before .before .before .before .before .before .before .before .args .frame .now) (now (c .before .before .before .before .before .before .before .before .before .before .before .before .before .before .before .before .args .out)) (c .before .before .before .before .before .before .before .before .before .before .before .before .before .loop .out) (c .before .before .before .before .before .before .before .before .before .before .before .before .before .loop .kept) (c .before .before .before .before .before .before .before .before .before .before .before .before .before .loop .count) (c .before .before .before .before .before .before .before .before .before .before .before .before .before .loop .at) (c .before .before .before .before .before .before .before .before .before .before .before .before .before .before .before .before .pre .0) (c .before .before .before .before .before .before .before .before .before .before .before .before .before .loop .inv) (is-plain (c .before .before .before .before .before .before .before .before .before .before .before .before .before .before .before .before .args .frame .now) (c .before .before .before .before .before .before .before .before .before .before .before .before .before .loop .at) (sym (c .before .before .before .before .before .before .before .before .before .before .before .before .is-group .ensures) ∙ c .before .before .before .before .before .before .before .before .before .before .before .if1 .taken)) in omega arith
 
--- src/fill.rt:47:36
 cast-write : tie.Need-cast-write Inv-loop μ-loop
-cast-write c = ?
+cast-write c = let p = is-plain (c .before .before .before .before .before .before .before .before .before .before .before .before .before .before .before .before .args .frame .now) (c .before .before .before .before .before .before .before .before .before .before .before .before .before .loop .at) (sym (c .before .before .before .before .before .before .before .before .before .before .before .before .is-group .ensures) ∙ c .before .before .before .before .before .before .before .before .before .before .before .if1 .taken) in omega (arith, p .whole)
 
--- src/fill.rt:47:9
 write-requires : tie.Need-write-requires Inv-loop μ-loop
-write-requires c κs = ?
+write-requires c κs = let r = row-room (c .before .before .before .before .before .before .before .before .before .before .before .before .before .before .before .before .args .frame .now) (now (c .before .before .before .before .before .before .before .before .before .before .before .before .before .before .before .before .args .out)) (c .before .before .before .before .before .before .before .before .before .before .before .before .before .loop .out) (c .before .before .before .before .before .before .before .before .before .before .before .before .before .loop .kept) (c .before .before .before .before .before .before .before .before .before .before .before .before .before .loop .count) (c .before .before .before .before .before .before .before .before .before .before .before .before .before .loop .at) (c .before .before .before .before .before .before .before .before .before .before .before .before .before .before .before .before .pre .0) (c .before .before .before .before .before .before .before .before .before .before .before .before .before .loop .inv) (is-plain (c .before .before .before .before .before .before .before .before .before .before .before .before .before .before .before .before .args .frame .now) (c .before .before .before .before .before .before .before .before .before .before .before .before .before .loop .at) (sym (c .before .before .before .before .before .before .before .before .before .before .before .before .is-group .ensures) ∙ c .before .before .before .before .before .before .before .before .before .before .before .if1 .taken)) in omega (arith, c .before .before .before .before .before .before .before .before .before .before .before .before .before .loop .inv .long)
 
--- src/fill.rt:48:17
 add-count : tie.Need-add-count Inv-loop μ-loop
-add-count c = ?
+add-count c = let r = row-room (c .before .before .before .before .before .before .before .before .before .before .before .before .before .before .before .before .before .before .before .args .frame .now) (now (c .before .before .before .before .before .before .before .before .before .before .before .before .before .before .before .before .before .before .before .args .out)) (c .before .before .before .before .before .before .before .before .before .before .before .before .before .before .before .before .loop .out) (c .before .before .before .before .before .before .before .before .before .before .before .before .before .before .before .before .loop .kept) (c .before .before .before .before .before .before .before .before .before .before .before .before .before .before .before .before .loop .count) (c .before .before .before .before .before .before .before .before .before .before .before .before .before .before .before .before .loop .at) (c .before .before .before .before .before .before .before .before .before .before .before .before .before .before .before .before .before .before .before .pre .0) (c .before .before .before .before .before .before .before .before .before .before .before .before .before .before .before .before .loop .inv) (is-plain (c .before .before .before .before .before .before .before .before .before .before .before .before .before .before .before .before .before .before .before .args .frame .now) (c .before .before .before .before .before .before .before .before .before .before .before .before .before .before .before .before .loop .at) (sym (c .before .before .before .before .before .before .before .before .before .before .before .before .before .before .before .is-group .ensures) ∙ c .before .before .before .before .before .before .before .before .before .before .before .before .before .before .if1 .taken)) in omega arith
 
--- src/fill.rt:49:22
 cast-at : tie.Need-cast-at Inv-loop μ-loop
-cast-at c = ?
+cast-at c = search needs
 
--- src/fill.rt:49:14
 add-at : tie.Need-add-at Inv-loop μ-loop
-add-at c = ?
+add-at c = let p = is-plain (c .before .before .before .before .before .before .before .before .before .before .before .before .before .before .before .before .before .before .before .args .frame .now) (c .before .before .before .before .before .before .before .before .before .before .before .before .before .before .before .before .loop .at) (sym (c .before .before .before .before .before .before .before .before .before .before .before .before .before .before .before .is-group .ensures) ∙ c .before .before .before .before .before .before .before .before .before .before .before .before .before .before .if1 .taken) in omega (arith, p .whole, c .before .before .before .before .before .before .before .before .wide .ensures)
 
--- src/fill.rt:42:5
 loop-less : tie.Need-loop-less Inv-loop μ-loop
-loop-less c = ?
+loop-less c = let p = is-plain (c .before .before .before .before .before .before .before .before .before .before .before .before .before .before .before .before .before .before .before .args .frame .now) (c .before .before .before .before .before .before .before .before .before .before .before .before .before .before .before .before .loop .at) (sym (c .before .before .before .before .before .before .before .before .before .before .before .before .before .before .before .is-group .ensures) ∙ c .before .before .before .before .before .before .before .before .before .before .before .before .before .before .if1 .taken) in omega (arith, p .whole, c .before .before .before .before .before .before .before .before .wide .ensures)
 
--- src/fill.rt:42:5
 loop-again : tie.Need-loop-again Inv-loop μ-loop
-loop-again c = ?
+loop-again c = filled-turn (c .before .before .before .before .before .before .before .before .before .before .before .before .before .before .before .before .before .before .before .args .frame .now) (now (c .before .before .before .before .before .before .before .before .before .before .before .before .before .before .before .before .before .before .before .args .out)) (c .before .before .before .before .before .before .before .before .before .before .before .before .before .before .before .before .loop .out) (c .before .before .before .before .before .before .before .before .before .before .before .before .before .before .before .before .loop .kept) (c .before .before .before .before .before .before .before .before .before .before .before .before .before .before .before .before .loop .count) (c .before .before .before .before .before .before .before .before .before .before .before .before .before .before .before .before .loop .at) (c .before .before .before .before .before .before .before .before .before .before .before .before .before .before .before .before .before .before .before .pre .0) (c .before .before .before .before .before .before .before .before .before .before .before .before .before .before .before .before .loop .inv) _ _ _ _ _ (is-plain (c .before .before .before .before .before .before .before .before .before .before .before .before .before .before .before .before .before .before .before .args .frame .now) (c .before .before .before .before .before .before .before .before .before .before .before .before .before .before .before .before .loop .at) (sym (c .before .before .before .before .before .before .before .before .before .before .before .before .before .before .before .is-group .ensures) ∙ c .before .before .before .before .before .before .before .before .before .before .before .before .before .before .if1 .taken)) (c .before .before .before .before .before .before .before .before .before .before .pgn-of .ensures) refl (c .before .before .before .before .before .before .before .before .wide .ensures .0) (c .before .before .before .before .before .keep .ensures) (c .before .before .write .ensures)
 
--- src/fill.rt:51:11
 step-requires : tie.Need-step-requires Inv-loop μ-loop
-step-requires c κs = ?
+step-requires c κs = search needs
 
--- src/fill.rt:52:21
+enum-told : tie.Need-enum-told Inv-loop μ-loop
+enum-told c = search needs
+
 enum-known-r : tie.Need-enum-known-r Inv-loop μ-loop
-enum-known-r c = ?
+enum-known-r c = search needs
 
--- src/fill.rt:53:27
 slice-aggregate-put-back : tie.Need-slice-aggregate-put-back Inv-loop μ-loop
-slice-aggregate-put-back c = ?
+slice-aggregate-put-back c = sym (c .before .before .before .before .before .before .before .before .loop .inv .keeps)
 
--- src/fill.rt:53:34
 mul-put-back : tie.Need-mul-put-back Inv-loop μ-loop
-mul-put-back c = ?
+mul-put-back c = omega (arith, c .before .before .before .before .before .before .before .before .loop .inv .inside, c .before .before .before .before .before .before .before .before .loop .inv .paid)
 
--- src/fill.rt:53:13
 put-back-requires : tie.Need-put-back-requires Inv-loop μ-loop
-put-back-requires c κs = ?
+put-back-requires c κs = (omega (arith, c .before .before .before .before .before .before .before .before .loop .inv .inside, c .before .before .before .before .before .before .before .before .loop .inv .paid, c .before .before .before .before .before .before .before .before .loop .inv .long), omega (arith, c .before .before .before .before .before .before .before .before .loop .inv .inside, c .before .before .before .before .before .before .before .before .loop .inv .paid, c .before .before .before .before .before .before .before .before .loop .inv .keeps))
 
--- src/fill.rt:35:1
+enum-told-2 : tie.Need-enum-told-2 Inv-loop μ-loop
+enum-told-2 c = search needs
+
 same-length : tie.Need-same-length Inv-loop μ-loop
-same-length c = ?
+same-length c = search needs
 
--- src/fill.rt:35:1
 returns : tie.Need-returns Inv-loop μ-loop
-returns c = ?
+returns c = filled-end (c .before .before .before .before .before .before .before .before .args .frame .now) (now (c .before .before .before .before .before .before .before .before .args .out)) (c .before .before .before .before .before .loop .out) (c .before .before .before .before .before .loop .kept) (c .before .before .before .before .before .loop .count) (c .before .before .before .before .before .loop .at) (c .before .before .before .before .before .before .before .before .pre .0) (c .before .before .before .before .before .loop .inv) (sym (c .before .before .step .ensures) ∙ c .enum-told .given .1)
 
--- src/fill.rt:35:1
 same-length-2 : tie.Need-same-length-2 Inv-loop μ-loop
-same-length-2 c = ?
+same-length-2 c = search needs
 
--- src/fill.rt:35:1
 returns-2 : tie.Need-returns-2 Inv-loop μ-loop
-returns-2 c = ?
+returns-2 c = filled-fault (c .before .before .before .before .before .before .before .before .before .before .before .before .before .before .args .frame .now) (now (c .before .before .before .before .before .before .before .before .before .before .before .before .before .before .args .out)) (c .before .before .before .before .before .before .before .before .before .before .before .loop .out) (c .before .before .before .before .before .before .before .before .before .before .before .loop .kept) (c .before .before .before .before .before .before .before .before .before .before .before .loop .count) (c .before .before .before .before .before .before .before .before .before .before .before .loop .at) (c .before .before .before .before .before .before .before .before .before .before .before .before .before .before .pre .0) (c .before .before .before .before .before .before .before .before .before .before .before .loop .inv) _ _ (sym (c .before .before .before .before .before .before .before .before .step .ensures) ∙ c .before .before .before .before .before .before .r .given .1) (c .before .before .put-back .ensures)
+
+same-length-3 : tie.Need-same-length-3 Inv-loop μ-loop
+same-length-3 c = search needs
+
+returns-3 : tie.Need-returns-3 Inv-loop μ-loop
+returns-3 c = filled-not (c .before .before .before .before .before .before .before .before .args .frame .now) (now (c .before .before .before .before .before .before .before .before .args .out)) (c .before .before .before .before .before .loop .out) (c .before .before .before .before .before .loop .kept) (c .before .before .before .before .before .loop .count) (c .before .before .before .before .before .loop .at) (c .before .before .before .before .before .before .before .before .pre .0) (c .before .before .before .before .before .loop .inv) _ _ (sym (c .before .before .step .ensures) ∙ c .enum-told2 .given .1) (sym (c .before .before .before .before .is-group .ensures) ∙ c .before .before .before .if1 .left)
 
 pub fill-spec : {M : Type 1} → statement M
 fill-spec =
@@ -174,11 +153,15 @@ fill-spec =
     loop-less
     loop-again
     step-requires
+    enum-told
     enum-known-r
     slice-aggregate-put-back
     mul-put-back
     put-back-requires
+    enum-told-2
     same-length
     returns
     same-length-2
-    returns-2)
+    returns-2
+    same-length-3
+    returns-3)
