@@ -15,8 +15,8 @@ use Rattle.multi_pg.specs.Places.{Plain, plain-step, readOn, read-all, read-gro
 use Rattle.unpacking.specs.declared.Unpacked.{Unpacked}
 use Rattle.unpacking.specs.declared.Unpacked.the-variants.{Groups, Refused}
 use Rattle.unpacking.specs.Unpacking.{rows, unpackedBy}
-use Rattle.unpacking.specs.Places.{isGroup}
-use Rattle.unpacking.specs.Rows.{rowAt, row-sets, row-length, keep-turn}
+use Rattle.unpacking.specs.Places.{isGroup, firstIsLast, one-group}
+use Rattle.unpacking.specs.Rows.{rowAt, row-sets, row-length, row-eq, keep-turn}
 use Rattle.unpacking.specs.Count.{few}
 
 -- what is left to do, with n groups written into o; o₀ is the list as it was
@@ -118,3 +118,16 @@ module _ (d o₀ o k : List ℕ) (n at : ℕ) (small : length d ≤ 64) (f : Fil
 
   pub filled-not : (g : Group) (A : Type 0) → stepAt d at ≡ step.At g → isGroup (stepAt d at) ≡ false → A
   filled-not g A e h = absurd (false≢true (sym h ∙ ap isGroup e))
+
+-- ---- a frame whose first group is its last
+
+module _ (d o : List ℕ) where
+  pub one-row : (g : Group) (o′ : List ℕ) → 3 ≤ length o → firstIsLast d ≡ true → stepAt d 0 ≡ step.At g → o′ ≡ rowAt o 0 (g .pgn) (g .start) (g .len) → (Groups 1, o′) ≡ unpackedBy (reading d) o
+  one-row g o′ h f e eo =
+      ap (λ (l : List ℕ). (Groups 1, l)) (eo ∙ row-eq o 0 (g .pgn) (g .start) (g .len) h) ∙ ap (λ (r : Reading). unpackedBy r o) (sym (one-group d g f e))
+
+  pub no-row : stepAt d 0 ≡ step.End → (Groups 0, o) ≡ unpackedBy (reading d) o
+  no-row e = ap (λ (r : Reading). unpackedBy r o) (sym (read-all d ∙ read-end d 0 e))
+
+  pub bad-row : (r : Refusal) → stepAt d 0 ≡ step.Fault r → (Refused r, o) ≡ unpackedBy (reading d) o
+  bad-row r e = ap (λ (x : Reading). unpackedBy x o) (sym (read-all d ∙ read-fault d 0 r e))

@@ -2,3 +2,4 @@ pub mod Unpacking
 pub mod Places
 pub mod Rows
 pub mod Count
+pub mod Caller

@@ -3,13 +3,16 @@ use Prim.Native.Nat.{ℕ, _+_, _-_, _/_, _%_, _≤_, _<_}
 use native.Mathlib.Omega.{arith}
 use mathlib.Core.Path.{_≡_, refl, sym, ap, _∙_}
 use mathlib.Core.Bool.{Bool, true, false, cond, false≢true}
-use mathlib.Core.List.{List, []}
+use mathlib.Core.List.{List, [], _∷_}
 use lib.Dec.{eqb, leb, ltb}
 use lib.ListN.{length, getD}
+use borrow.Author.Tests.{leb-true, leb-false, ltb-true, eqb-true, le-leb, lt-leb, eq-eqb}
+use Rattle.laws.specs.Choice.{then, else}
+use Rattle.multi_pg.specs.declared.Group.{Group}
 use Rattle.multi_pg.specs.declared.Step.{Step}
 use Rattle.multi_pg.specs.declared.Step.the-variants as step
-use Rattle.multi_pg.specs.Groups.{stepAt, groupAt, dataLength}
-use Rattle.multi_pg.specs.Places.{Plain, plain-step, step-plain}
+use Rattle.multi_pg.specs.Groups.{tos, dataLength, stepAt, groupAt, good, after, reading}
+use Rattle.multi_pg.specs.Places.{Plain, plain-step, step-plain, read-all, read-group, read-end}
 
 abbrev pub isGroup : Step → Bool
 isGroup (step.At g) = true
@@ -41,3 +44,25 @@ module _ (d : List ℕ) (at : ℕ) where
 
   pub is-none : (Plain d at → ⊥) → false ≡ isGroup (stepAt d at)
   is-none n = none-by (isGroup (stepAt d at)) refl n
+
+-- ---- a frame of one group
+
+module _ (d : List ℕ) where
+  end-byte : (at : ℕ) (b : Bool) → leb (length d) at ≡ b → getD d at 0 / 32 ≡ 0 → stepAt d at ≡ step.End
+  end-byte at true e z = sym (then (leb (length d) at) _ _ _ e refl)
+  end-byte at false e z = sym (else (leb (length d) at) _ _ _ e (then (eqb (tos d at) 0) _ _ _ (eq-eqb (tos d at) 0 z) refl))
+
+  last-by : (to : ℕ) (a b : Bool) → ltb (length d) 4 ≡ a → leb (length d) to ≡ b → cond a true (cond b true (eqb (getD d to 0 / 32) 0)) ≡ true → to ≤ length d → 4 ≤ to → stepAt d to ≡ step.End
+  last-by to true b p q e h k = let s : length d < 4 = ltb-true (length d) 4 p in absurd (omega arith)
+  last-by to false true p q e h k = sym (then (leb (length d) to) _ _ _ q refl)
+  last-by to false false p q e h k = end-byte to false q (eqb-true (getD d to 0 / 32) 0 e)
+
+  -- if the first group is the last, it is all that the frame has
+  pub one-group : (g : Group) → firstIsLast d ≡ true → stepAt d 0 ≡ step.At g → reading d ≡ good (g ∷ [])
+  one-group g f e =
+      let (p, same) = step-plain d 0 g e in
+      let w : 0 + 4 + dataLength d 0 ≤ length d = p .whole in
+      let end : stepAt d (4 + dataLength d 0) ≡ step.End = last-by (4 + dataLength d 0) (ltb (length d) 4) (leb (length d) (4 + dataLength d 0)) refl refl f (omega arith) (omega arith) in
+      read-all d
+      ∙ read-group d 0 g e
+      ∙ ap (after g) (read-end d (g .start + g .len) (ap (λ (x : Group). stepAt d (x .start + x .len)) same ∙ end))

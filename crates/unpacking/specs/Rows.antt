@@ -24,7 +24,7 @@ row-sets l i a b c vs =
     ∙ ap (λ (k : ℕ). sets (set (set (set l i a) (suc i) b) (suc (suc i)) c) k vs) e₃
 
 module _ (l : List ℕ) (i a b c : ℕ) (h : i + 3 ≤ length l) where
-  row-eq : rowAt l i a b c ≡ take i l ++ (a ∷ b ∷ c ∷ []) ++ drop (i + 3) l
+  pub row-eq : rowAt l i a b c ≡ take i l ++ (a ∷ b ∷ c ∷ []) ++ drop (i + 3) l
   row-eq = row-sets l i a b c [] ∙ sets-eq (a ∷ b ∷ c ∷ []) l i h
 
   front : length (take i l ++ (a ∷ b ∷ c ∷ [])) ≡ i + 3
