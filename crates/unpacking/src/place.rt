@@ -8,11 +8,11 @@ use frame::octet::wide;
 
 // Whether a group stands at a place: TOS 2 and TF 0 are 16 in the first byte's top six bits.
 pub fn is_group(frame: &[u8], at: usize) -> bool
-    requires { ⌜ at ≤ length (now frame) ⌝ }
+    requires { ⌜ (at ≤ length (now frame)) × (length (now frame) ≤ 64) ⌝ }
     ensures { λ r. ⌜ r ≡ isGroup (stepAt (now (frame .entry)) at) ⌝ }
 {
-    let left = frame.len() - at;
-    if left < 4 {
+    let start = at + 4;
+    if frame.len() < start {
         return false;
     }
     if frame[at] / 4 != 16 {
@@ -21,7 +21,7 @@ pub fn is_group(frame: &[u8], at: usize) -> bool
     if !((240 <= frame[at + 1]) | (frame[at + 2] == 0)) {
         return false;
     }
-    wide(frame[at + 3]) as usize <= left - 4
+    start + wide(frame[at + 3]) as usize <= frame.len()
 }
 
 // Whether the place behind a first group is an end, as it is in a frame of one group.

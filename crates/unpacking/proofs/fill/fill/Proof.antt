@@ -19,7 +19,7 @@ loop-holds : tie.Need-loop-holds Inv-loop μ-loop
 loop-holds c = filled-none (c .before .before .args .frame .now) (now (c .before .before .args .out)) _ (c .before .before .pre .0) (c .before .before .pre .1) (search needs)
 
 is-group-requires : tie.Need-is-group-requires Inv-loop μ-loop
-is-group-requires c κs = c .loop .inv .inside
+is-group-requires c κs = (c .loop .inv .inside, c .before .before .before .pre .0)
 
 shared-slice-read-pgn-of : tie.Need-shared-slice-read-pgn-of Inv-loop μ-loop
 shared-slice-read-pgn-of c = let p = is-plain (c .before .before .before .before .before .before .args .frame .now) (c .before .before .before .loop .at) (sym (c .before .before .is-group .ensures) ∙ c .before .if1 .taken) in omega (arith, p .whole)

@@ -1,4 +1,4 @@
-use Prim.Native.Nat.{ℕ, _+_, _*_, _-_, _/_, _%_, _≤_, _<_}
+use Prim.Native.Nat.{ℕ, _+_, _*_, _/_, _%_, _≤_, _<_}
 use native.Mathlib.Omega.{arith}
 use mathlib.Core.Path.{_≡_, refl, sym, ap, _∙_}
 use mathlib.Core.Bool.{Bool, true, false, not, _||_, false≢true}
@@ -25,20 +25,20 @@ module _ (d : List ℕ) (at : ℕ) (second : getD d (at + 1) 0 < 256) (third : g
   wrong : not (leb 240 (getD d (at + 1) 0) || eqb (getD d (at + 2) 0) 0) ≡ true → false ≡ isGroup (stepAt d at)
   wrong h = is-none d at (λ p. false≢true (sym (not-true _ h) ∙ sym form ∙ p .form))
 
-  module _ (w : ℕ) (e : w ≡ dataLength d at) (left : 4 ≤ length d - at) (first : getD d at 0 / 4 ≡ 16) (right : not (leb 240 (getD d (at + 1) 0) || eqb (getD d (at + 2) 0) 0) ≡ false) where
-    by-test : (b : Bool) → leb w (length d - at - 4) ≡ b → b ≡ isGroup (stepAt d at)
+  module _ (w : ℕ) (e : w ≡ dataLength d at) (left : at + 4 ≤ length d) (first : getD d at 0 / 4 ≡ 16) (right : not (leb 240 (getD d (at + 1) 0) || eqb (getD d (at + 2) 0) 0) ≡ false) where
+    by-test : (b : Bool) → leb (at + 4 + w) (length d) ≡ b → b ≡ isGroup (stepAt d at)
     by-test true h =
-        let l : w ≤ length d - at - 4 = leb-true _ _ h in
+        let l : at + 4 + w ≤ length d = leb-true _ _ h in
         sym (plain-is d at (record { whole = omega arith; service = omega arith; trailer = omega arith; form = form ∙ not-false _ right }))
     by-test false h =
-        let l : length d - at - 4 < w = leb-false _ _ h in
+        let l : length d < at + 4 + w = leb-false _ _ h in
         is-none d at (λ p. let q = p .whole in omega arith)
 
-    by-data : leb w (length d - at - 4) ≡ isGroup (stepAt d at)
-    by-data = by-test (leb w (length d - at - 4)) refl
+    by-data : leb (at + 4 + w) (length d) ≡ isGroup (stepAt d at)
+    by-data = by-test (leb (at + 4 + w) (length d)) refl
 
-sub-left : tie.Need-sub-left
-sub-left c = search needs
+add-start : tie.Need-add-start
+add-start c = search needs
 
 returns : tie.Need-returns
 returns c = is-none (c .before .before .args .frame .now) (c .before .before .args .at) (λ p. let w = p .whole in omega arith)
@@ -76,6 +76,9 @@ wide-requires c κs = search needs
 cast-result : tie.Need-cast-result
 cast-result c = search needs
 
+add-result : tie.Need-add-result
+add-result c = search needs
+
 returns-4 : tie.Need-returns-4
 returns-4 c = by-data (c .before .before .before .before .before .before .before .before .before .args .frame .now) (c .before .before .before .before .before .before .before .before .before .args .at) (omega (arith, c .before .before .before .before .shared-slice-known3 .given (c .before .before .before .before .before .before .before .before .before .args .at + 1))) (omega (arith, c .before .before .before .shared-slice-known4 .given (c .before .before .before .before .before .before .before .before .before .args .at + 2))) (c .wide .result) (c .wide .ensures .0) (c .before .before .before .before .before .before .before .if1 .left) (c .before .before .before .before .before .if2 .left) (c .before .before .if3 .left)
 
@@ -83,7 +86,7 @@ pub is-group-spec : {M : Type 1} → statement M
 is-group-spec =
     tie.close
     (tie.spec
-    sub-left
+    add-start
     returns
     shared-slice-read-if2
     returns-2
@@ -96,4 +99,5 @@ is-group-spec =
     shared-slice-read-wide
     wide-requires
     cast-result
+    add-result
     returns-4)
