@@ -1,14 +1,13 @@
 -- A turn of the loop that writes groups where it meets them.
-use Prim.Native.Nat.{ℕ, suc, _+_, _*_, _-_, _≤_, _<_}
+use Prim.Native.Nat.{ℕ, suc, _+_, _*_, _-_, _≤_}
 use native.Mathlib.Omega.{arith}
-use mathlib.Core.Path.{_≡_, refl, sym, ap, subst, _∙_}
-use mathlib.Core.Bool.{Bool, true, false, false≢true}
-use mathlib.Core.List.{List, [], _∷_, _++_}
+use mathlib.Core.Path.{_≡_, refl, sym, ap, _∙_}
+use mathlib.Core.Bool.{true, false, false≢true}
+use mathlib.Core.List.{List, _∷_, _++_}
 use lib.ListN.{length, getD, take, drop}
 use lib.Seq.{sets, sets-eq}
 use Rattle.frame.specs.declared.refusal.Refusal.{Refusal}
 use Rattle.multi_pg.specs.declared.Group.{Group}
-use Rattle.multi_pg.specs.declared.Step.{Step}
 use Rattle.multi_pg.specs.declared.Step.the-variants as step
 use Rattle.multi_pg.specs.Groups.{pgnAt, dataLength, groupAt, stepAt, Reading, good, bad, after, reading}
 use Rattle.multi_pg.specs.Places.{Plain, plain-step, readOn, read-all, read-group, read-end, read-fault}
@@ -18,6 +17,7 @@ use Rattle.unpacking.specs.Unpacking.{rows, unpackedBy}
 use Rattle.unpacking.specs.Places.{isGroup, firstIsLast, one-group}
 use Rattle.unpacking.specs.Rows.{rowAt, row-sets, row-length, row-eq, keep-turn}
 use Rattle.unpacking.specs.Count.{few}
+use Rattle.unpacking.specs.Caller.{rows-length}
 
 -- what is left to do, with n groups written into o; o₀ is the list as it was
 abbrev pub onward : Reading → ℕ → List ℕ → List ℕ → Unpacked × List ℕ
@@ -32,10 +32,6 @@ onward-turn g (good gs) n o o₀ =
     ∙ ap (λ (l : List ℕ). (Groups (n + 1 + length gs), l))
     (sym (row-sets o (3 * n) (g .pgn) (g .start) (g .len) (rows gs)) ∙ ap (λ (k : ℕ). sets (rowAt o (3 * n) (g .pgn) (g .start) (g .len)) k (rows gs)) i)
 onward-turn g (bad r) n o o₀ = refl
-
-rows-length : (gs : List Group) → length (rows gs) ≡ 3 * length gs
-rows-length [] = refl
-rows-length (g ∷ gs) = omega (arith, rows-length gs)
 
 -- with nothing written yet it is the whole
 onward-all : (o : List ℕ) (r : Reading) → ((gs : List Group) → r ≡ good gs → 3 * length gs ≤ length o) → onward r 0 o o ≡ unpackedBy r o

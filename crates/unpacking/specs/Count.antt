@@ -1,7 +1,7 @@
 -- How many groups a frame has: each takes 4 bytes at least, and a CAN FD frame has at most 64.
-use Prim.Native.Nat.{ℕ, suc, _+_, _*_, _≤_, _<_}
+use Prim.Native.Nat.{ℕ, _+_, _*_, _≤_}
 use native.Mathlib.Omega.{arith}
-use mathlib.Core.Path.{_≡_, refl, sym, ap, _∙_}
+use mathlib.Core.Path.{_≡_, refl, sym, _∙_}
 use mathlib.Core.Bool.{Bool, true, false, _&&_, _||_, false≢true}
 use mathlib.Core.List.{List, [], _∷_}
 use lib.Dec.{eqb, leb}
@@ -11,7 +11,7 @@ use Rattle.laws.specs.Choice.{each-of}
 use Rattle.frame.specs.Lengths.{lengths, isLength}
 use Rattle.frame.specs.LengthLaws.{among, is-among}
 use Rattle.multi_pg.specs.declared.Group.{Group}
-use Rattle.multi_pg.specs.Groups.{Reading, good, bad, reading, groupsIn, groupsOf, dataLength}
+use Rattle.multi_pg.specs.Groups.{Reading, good, bad, reading, groupsIn, groupsOf}
 use Rattle.multi_pg.specs.Reader.{Chain, last, link, good-chain}
 
 chain-room : (d : List ℕ) {at : ℕ} {gs : List Group} → at ≤ length d → Chain d at gs → at + 4 * length gs ≤ length d

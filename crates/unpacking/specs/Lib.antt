@@ -3,3 +3,4 @@ pub mod Places
 pub mod Rows
 pub mod Count
 pub mod Caller
+pub mod Table

@@ -1,17 +1,17 @@
 -- What the code asks of a place. Nothing here is to be believed: proofs tie each to the reading of a frame.
-use Prim.Native.Nat.{ℕ, _+_, _-_, _/_, _%_, _≤_, _<_}
+use Prim.Native.Nat.{ℕ, _+_, _-_, _/_, _≤_, _<_}
 use native.Mathlib.Omega.{arith}
 use mathlib.Core.Path.{_≡_, refl, sym, ap, _∙_}
 use mathlib.Core.Bool.{Bool, true, false, cond, false≢true}
 use mathlib.Core.List.{List, [], _∷_}
 use lib.Dec.{eqb, leb, ltb}
 use lib.ListN.{length, getD}
-use borrow.Author.Tests.{leb-true, leb-false, ltb-true, eqb-true, le-leb, lt-leb, eq-eqb}
+use borrow.Author.Tests.{ltb-true, eqb-true, eq-eqb}
 use Rattle.laws.specs.Choice.{then, else}
 use Rattle.multi_pg.specs.declared.Group.{Group}
 use Rattle.multi_pg.specs.declared.Step.{Step}
 use Rattle.multi_pg.specs.declared.Step.the-variants as step
-use Rattle.multi_pg.specs.Groups.{tos, dataLength, stepAt, groupAt, good, after, reading}
+use Rattle.multi_pg.specs.Groups.{tos, dataLength, stepAt, good, after, reading}
 use Rattle.multi_pg.specs.Places.{Plain, plain-step, step-plain, read-all, read-group, read-end}
 
 abbrev pub isGroup : Step → Bool

@@ -1,4 +1,4 @@
-use Prim.Native.Nat.{ℕ, _+_, _*_, _/_, _%_, _≤_, _<_}
+use Prim.Native.Nat.{ℕ, _+_, _/_, _%_, _≤_, _<_}
 use native.Mathlib.Omega.{arith}
 use mathlib.Core.Path.{_≡_, refl, sym, ap, _∙_}
 use mathlib.Core.Bool.{Bool, true, false, not, _||_, false≢true}
@@ -8,7 +8,6 @@ use lib.ListN.{length, getD}
 use borrow.Author.Tests.{leb-true, leb-false, not-true, not-false}
 use Rattle.frame.specs.Pgn.{lowByteOk}
 use Rattle.multi_pg.specs.Groups.{pgnAt, dataLength, stepAt}
-use Rattle.multi_pg.specs.Places.{Plain}
 use Rattle.unpacking.specs.Places.{isGroup, plain-is, is-none}
 use borrow.Author.Needs.{needs}
 use Rattle.unpacking.proofs.place.is_group.Statement.{statement}
