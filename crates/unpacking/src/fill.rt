@@ -31,7 +31,8 @@ pub fn first_only(frame: &[u8], out: &mut [u32]) -> Unpacked
     }
 }
 
-// Any frame. One pass writes each group where it is met and keeps what stood there; a fault puts it all back.
+// Any frame. One pass writes each group where it is met and keeps what stood there. A fault puts it all back, so that the caller is
+// given no group of a frame that is not good as a whole.
 pub fn fill(frame: &[u8], out: &mut [u32]) -> Unpacked
     requires { ⌜ (length (now frame) ≤ 64) × (length (now out) ≡ 48) ⌝ }
     ensures { λ r. ⌜ (r, now (out .exit)) ≡ unpackedBy (reading (now (frame .entry))) (now (out .entry)) ⌝ }
