@@ -5,18 +5,13 @@ use mathlib.Core.Bool.{Bool, true, false, cond, not, _&&_, _||_}
 use mathlib.Core.List.{List, [], _∷_, _++_, map}
 use lib.Dec.{eqb}
 use lib.ListN.{length, getD, take, drop, replicate}
-use Rattle.frame.specs.declared.refusal.Refusal.the-variants.{OutOfBounds}
 use Rattle.transport.specs.declared.Kind.{Kind}
 use Rattle.transport.specs.declared.Kind.the-variants.{Rts, Bam}
 use Rattle.session.specs.declared.Session.{Session}
 use Rattle.slots.specs.declared.Slot.{Slot}
 use Rattle.slots.specs.declared.SlotState.{SlotState}
 use Rattle.slots.specs.declared.SlotState.the-variants.{Free, Open}
-use Rattle.slots.specs.Slots.{freeSlot}
 use Rattle.receiver.specs.declared.Receiver.{Receiver}
-use Rattle.record_bytes.specs.declared.layout.Buffer.{Buffer}
-use Rattle.record_bytes.specs.declared.layout.Buffer.the-variants.{Record, Refused}
-use Rattle.record_bytes.specs.declared.layout.RecordRead.{RecordRead}
 
 -- four bytes, low byte first
 abbrev pub low32 : List ℕ → ℕ → ℕ
@@ -123,12 +118,3 @@ isRecord b = cond (not (eqb (length b) 249)) false (codesAll (piecesOf b))
 abbrev pub recordAt : List ℕ → Receiver
 recordAt b =
     record { own = record { 0 = getD b 0 0 }; limit = low32 b 1; last = low32 b 5; slots = slotsAt b }
-
--- out of bounds: the idle limit 0 is refused by every call
-abbrev pub noReceiver : Receiver
-noReceiver = record { own = record { 0 = 255 }; limit = 0; last = 0; slots = replicate 8 freeSlot }
-
-unfoldable pub recordOf : List ℕ → RecordRead
-recordOf b =
-    cond (not (isRecord b)) (record { receiver = noReceiver; answer = Refused OutOfBounds })
-    (record { receiver = recordAt b; answer = Record })

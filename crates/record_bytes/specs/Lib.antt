@@ -1,4 +1,6 @@
 pub mod Layout
 pub mod Written
 pub mod Pieces
+pub mod Keeping
+pub mod Kept
 pub mod RoundTrip

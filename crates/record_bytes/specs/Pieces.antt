@@ -59,6 +59,14 @@ pub record-long : (b : List ℕ) → isRecord b ≡ true → length b ≡ 249
 unfolding isRecord
 record-long b h = long-of (length b) (codesAll (piecesOf b)) (eqb (length b) 249) refl h
 
+codes-of : (n : ℕ) (x t : Bool) → eqb n 249 ≡ t → cond (not (eqb n 249)) false x ≡ true → x ≡ true
+codes-of n x true e h = ap (λ (u : Bool). cond (not u) false x) (sym e) ∙ h
+codes-of n x false e h = absurd (false≢true (ap (λ (u : Bool). cond (not u) false x) (sym e) ∙ h))
+
+pub record-codes : (b : List ℕ) → isRecord b ≡ true → codesAll (piecesOf b) ≡ true
+unfolding isRecord
+record-codes b h = codes-of (length b) (codesAll (piecesOf b)) (eqb (length b) 249) refl h
+
 length-state : (st : SlotState) → length (stateBytes st) ≡ 30
 unfolding sessionBytes
 length-state Free = refl

@@ -17,9 +17,7 @@ use Rattle.slots.specs.declared.Slot.{Slot}
 use Rattle.slots.specs.declared.SlotState.{SlotState}
 use Rattle.slots.specs.declared.SlotState.the-variants.{Free, Open}
 use Rattle.receiver.specs.declared.Receiver.{Receiver}
-use Rattle.record_bytes.specs.declared.layout.Buffer.the-variants.{Record}
-use Rattle.record_bytes.specs.declared.layout.RecordRead.{RecordRead}
-use Rattle.record_bytes.specs.Layout.{low4, low32, kindByte, kindAt, sessionBytes, sessionAt, stateBytes, slotBytes, codesOk, slotAt, headBytes, slotsBytes, recordBytes, pieces, piecesOf, codesAll, slotsAt, isRecord, recordAt, recordOf}
+use Rattle.record_bytes.specs.Layout.{low4, low32, kindByte, kindAt, sessionBytes, sessionAt, stateBytes, slotBytes, codesOk, slotAt, headBytes, slotsBytes, recordBytes, pieces, piecesOf, codesAll, slotsAt, isRecord, recordAt}
 use Rattle.record_bytes.specs.Pieces.{length-slots, pieces-slots}
 
 -- Four bytes hold a number below 2^32.
@@ -122,24 +120,19 @@ module _ (r : Receiver) (f : RecordFits r) where
   pieces-record =
       ap (λ (n : ℕ). pieces n (slotsBytes (r .slots))) (sym (f .eight)) ∙ pieces-slots (r .slots)
 
-  is-record : isRecord (recordBytes r) ≡ true
+  -- what is written for a record is a record
+  pub is-record : isRecord (recordBytes r) ≡ true
   unfolding isRecord
   is-record =
       sym (else (not (eqb (length (recordBytes r)) 249)) _ _ _ (ap not (eq-eqb _ _ length-record)) refl)
       ∙ ap codesAll pieces-record
       ∙ codes-slots (r .slots)
 
-  record-back : recordAt (recordBytes r) ≡ r
+  -- and is read as it was
+  pub read-back : recordAt (recordBytes r) ≡ r
   unfolding headBytes
-  record-back =
+  read-back =
       let made : ℕ → ℕ → List Slot → Receiver = λ (n m : ℕ) (ss : List Slot). record { own = r .own; limit = n; last = m; slots = ss } in
       ap (made (fourBytes (r .limit)) (fourBytes (r .last))) (ap (map slotAt) pieces-record ∙ slots-back (r .slots) (f .slots))
       ∙ ap (λ (n : ℕ). made n (fourBytes (r .last)) (r .slots)) (low32-read-back (r .limit) (f .limit))
       ∙ ap (λ (n : ℕ). made (r .limit) n (r .slots)) (low32-read-back (r .last) (f .last))
-
-  -- What is written for a record is a record, and is read as it.
-  pub read-back : recordOf (recordBytes r) ≡ record { receiver = r; answer = Record }
-  unfolding recordOf
-  read-back =
-      sym (else (not (isRecord (recordBytes r))) _ _ _ (ap not is-record) refl)
-      ∙ ap (λ (x : Receiver). record { receiver = x; answer = Record }) record-back

@@ -3,7 +3,7 @@ ghost use mathlib.Core.Path.{_≡_};
 ghost use Prim.Native.Nat.{_+_, _≤_};
 ghost use lib.ListN.{length};
 ghost use lib.Seq.{paste};
-ghost use Rattle.record_bytes.specs.Layout.{headBytes, recordBytes, written, storedIn, piecesOf, slotsAt, codesAll, isRecord, recordAt, recordOf};
+ghost use Rattle.record_bytes.specs.Layout.{headBytes, recordBytes, written, storedIn, piecesOf, slotsAt, codesAll, isRecord, recordAt};
 use super::slot::SLOT_BYTES;
 use super::slot::codes_ok;
 use super::slot::slot_at;
@@ -11,7 +11,6 @@ use super::slot::slot_bytes;
 use super::word::word_at;
 use frame::Address;
 use frame::octet::low_byte;
-use frame::refusal::Refusal;
 use receiver::Receiver;
 use slots::SLOTS;
 use slots::Slot;
@@ -20,18 +19,6 @@ use slots::SlotState;
 pub const HEAD_BYTES: usize = 9;
 
 pub const RECORD_BYTES: usize = 249;
-
-// Whether a buffer is a record.
-pub enum Buffer {
-    Record,
-    Refused(Refusal),
-}
-
-// What a buffer says. One that is no record says an empty receiver that every call refuses.
-pub struct RecordRead {
-    pub receiver: Receiver,
-    pub answer: Buffer,
-}
 
 // Copies the first n bytes of src into out from at on.
 pub fn copy(out: &mut [u8], at: usize, src: &[u8], n: usize)
@@ -45,7 +32,7 @@ pub fn copy(out: &mut [u8], at: usize, src: &[u8], n: usize)
     }
 }
 
-fn head_bytes(r: Receiver) -> [u8; 9]
+pub fn head_bytes(r: Receiver) -> [u8; 9]
     ensures { λ x. ⌜ x ≡ headBytes r ⌝ }
 {
     [
@@ -139,28 +126,5 @@ pub fn record_at(bytes: &[u8]) -> Receiver
         limit: word_at(bytes, 1),
         last: word_at(bytes, 5),
         slots: slots_at(bytes),
-    }
-}
-
-// Reads a record out of a buffer: 23 where it is none.
-pub fn read_record(bytes: &[u8]) -> RecordRead
-    ensures { λ r. ⌜ r ≡ recordOf (now (bytes .entry)) ⌝ }
-{
-    if !is_record(bytes) {
-        return RecordRead {
-            receiver: Receiver {
-                own: Address(255),
-                limit: 0,
-                last: 0,
-                slots: [Slot {
-                    state: SlotState::Free,
-                }; 8],
-            },
-            answer: Buffer::Refused(Refusal::OutOfBounds),
-        };
-    }
-    RecordRead {
-        receiver: record_at(bytes),
-        answer: Buffer::Record,
     }
 }
