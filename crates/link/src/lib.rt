@@ -2,3 +2,4 @@
 pub mod export;
 pub mod message;
 pub mod pack;
+pub mod reading;
