@@ -1,17 +1,27 @@
 -- A reading over lent bytes: 01, "Clock".
 use Prim.Native.Nat.{ℕ}
-use mathlib.Core.Bool.{cond, not}
-use mathlib.Core.List.{List}
+use mathlib.Core.Path.{_≡_, refl, sym, ap, _∙_}
+use mathlib.Core.Bool.{Bool, true, false, cond, not}
+use mathlib.Core.List.{List, [], _∷_}
 use lib.Dec.{eqb}
-use lib.ListN.{length, replicate}
+use lib.ListN.{length, take, replicate}
+use borrow.Author.Tests.{eq-eqb}
+use Rattle.laws.specs.Choice.{else}
 use Rattle.frame.specs.Refusals.{numberOf}
+use Rattle.frame.specs.declared.refusal.Refusal.the-variants.{Silence, OutOfBounds}
+use Rattle.session.specs.declared.Session.{Session}
+use Rattle.receiver.specs.declared.Receiver.{Receiver}
+use Rattle.receiver.specs.declared.answer.End.the-variants as end
 use Rattle.receiver.specs.declared.answer.Kept.{Kept}
 use Rattle.receiver.specs.declared.answer.Kept.the-variants as kept
 use Rattle.receiver.specs.declared.answer.Elapsed.{Elapsed}
-use Rattle.receiver.specs.Calls.{readingStep}
+use Rattle.receiver.specs.Calls.{isReady, endingOf, stays, readingStep}
 use Rattle.record_bytes.specs.Layout.{isRecord, recordAt}
 use Rattle.record_bytes.specs.Keeping.{putIn}
-use Rattle.answer_bytes.specs.Ends.{endsBytes}
+use Rattle.record_bytes.specs.Kept.{Bytes, keep}
+use Rattle.answer_bytes.specs.Answers.{fieldsBytes}
+use Rattle.answer_bytes.specs.Ends.{endBytes, endsBytes}
+use Rattle.answer_bytes.specs.EndLaws.{none-ends}
 
 abbrev pub keptNumber : Kept → ℕ
 keptNumber kept.Kept = 0
@@ -26,3 +36,25 @@ unfoldable pub readIn : List ℕ → ℕ → List ℕ → List ℕ → ℕ × (L
 readIn b t m a =
     cond (not (eqb (length a) 288)) (23, (b, a))
     (cond (not (isRecord b)) (23, (b, replicate 288 0)) (readBy b (readingStep (recordAt b) t m)))
+
+-- ---- a refused reading, and an ending
+
+-- 23 where the record is out of bounds or the store has another length: the record keeps every byte, and no slot has an answer
+pub reading-refused : (b a m : List ℕ) (t : ℕ) → Bytes b → isRecord b ≡ true → length a ≡ 288 → isReady (recordAt b) m ≡ false → readIn b t m a ≡ (23, (b, replicate 288 0))
+unfolding readIn readingStep
+reading-refused b a m t h r room e =
+    let R : Receiver = recordAt b in
+    let none : Elapsed = record { next = R; answer = kept.Refused OutOfBounds; ends = replicate 8 stays } in
+    let x : none ≡ readingStep R t m = else (isReady R m) _ _ _ e refl in
+    sym
+    (else (not (eqb (length a) 288)) _ _ _ (ap not (eq-eqb _ _ room))
+    (else (not (isRecord b)) _ _ _ (ap not r)
+    (sym
+    (ap (readBy b) (sym x)
+    ∙ ap (λ (l : List ℕ). (23, (l, endsBytes (replicate 8 stays)))) (keep b h r)
+    ∙ ap (λ (l : List ℕ). (23, (b, l))) none-ends))))
+
+-- the answer of a session that ended by silence: number 22, and the code for an end
+pub silence-says : (s : Session) → take 2 (endBytes (end.Ended (endingOf s Silence))) ≡ 22 ∷ 7 ∷ []
+unfolding fieldsBytes
+silence-says s = refl
