@@ -1,9 +1,9 @@
 -- What stands where in the answers of a reading.
 use Prim.Native.Nat.{ℕ, zero, suc, _+_, _*_, _<_}
 use native.Mathlib.Omega.{arith}
-use mathlib.Core.Path.{_≡_, refl, sym, ap, _∙_}
+use mathlib.Core.Path.{_≡_, refl, ap, _∙_}
 use mathlib.Core.List.{List, [], _∷_, _++_}
-use lib.ListN.{length, getD, take, drop, replicate, length-append}
+use lib.ListN.{length, getD, take, drop, replicate}
 use lib.Seq.{take-at, drop-at, drop-append-add}
 use Rattle.receiver.specs.declared.answer.Answer.the-variants.{Ended}
 use Rattle.receiver.specs.declared.answer.End.{End}

@@ -1,7 +1,6 @@
 -- How long the bytes of an answer are.
 use Prim.Native.Nat.{ℕ, _+_}
 use mathlib.Core.Path.{_≡_, refl, ap, _∙_}
-use mathlib.Core.List.{List, _++_}
 use lib.ListN.{length, length-append}
 use Rattle.transport.specs.declared.response.Response.{Response}
 use Rattle.transport.specs.declared.response.Response.the-variants.{Cts, Eoma, Abort}

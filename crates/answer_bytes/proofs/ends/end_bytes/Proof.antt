@@ -1,11 +1,8 @@
-use mathlib.Core.Path.{_≡_, refl, sym, ap, _∙_}
+use mathlib.Core.Path.{sym, ap, _∙_}
 use Rattle.answer_bytes.specs.Ends.{endBytes}
 use borrow.Author.Needs.{needs}
 use Rattle.answer_bytes.proofs.ends.end_bytes.Statement.{statement}
 use Rattle.answer_bytes.proofs.ends.end_bytes.Tie as tie
-use Rattle.answer_bytes.proofs.ends.end_bytes.Reads as reads
-use Rattle.answer_bytes.proofs.ends.end_bytes.Lts as lts
-use Rattle.answer_bytes.proofs.answer.write_answer.Reads as write-answer-reads
 
 -- src/ends.rt:22:23
 enum-told : tie.Need-enum-told

@@ -1,18 +1,13 @@
-use Prim.Native.Nat.{ℕ, _+_, _-_, _*_, _<_, _≤_}
-use mathlib.Core.Path.{_≡_, refl, sym, ap, _∙_}
-use mathlib.Core.List.{List, _++_}
+use Prim.Native.Nat.{_+_, _-_, _*_, _≤_}
+use mathlib.Core.Path.{_≡_, refl}
+use mathlib.Core.List.{_++_}
 use lib.ListN.{length, take, drop}
-use denote.Ref.{now}
 use native.Mathlib.Omega.{arith}
 use Rattle.answer_bytes.specs.Ends.{endsBytes}
 use Rattle.answer_bytes.proofs.Turns.{ends-turn, ends-long, ends-all}
 use borrow.Author.Needs.{needs}
 use Rattle.answer_bytes.proofs.ends.write_ends.Statement.{statement}
 use Rattle.answer_bytes.proofs.ends.write_ends.Tie as tie
-use Rattle.answer_bytes.proofs.ends.write_ends.Reads as reads
-use Rattle.answer_bytes.proofs.ends.write_ends.Lts as lts
-use Rattle.answer_bytes.proofs.ends.end_bytes.Reads as end-bytes-reads
-use Rattle.record_bytes.proofs.layout.copy.Reads as copy-reads
 
 abbrev Inv-loop : tie.InvT-loop
 Inv-loop out₀ ends i₀ out i = (length ends ≡ 8) × (length out ≡ 288) × (i ≤ 8) × (take (36 * i) out ++ endsBytes (drop i ends) ≡ endsBytes ends)

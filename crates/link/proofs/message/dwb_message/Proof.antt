@@ -3,10 +3,6 @@ use Rattle.link.proofs.Messages.{front-short, front-put}
 use borrow.Author.Needs.{needs}
 use Rattle.link.proofs.message.dwb_message.Statement.{statement}
 use Rattle.link.proofs.message.dwb_message.Tie as tie
-use Rattle.link.proofs.message.dwb_message.Reads as reads
-use Rattle.link.proofs.message.dwb_message.Lts as lts
-use Rattle.link.proofs.message.message_in.Reads as message-in-reads
-use Rattle.record_bytes.proofs.layout.copy.Reads as copy-reads
 
 -- src/message.rt:42:9
 message-in-requires : tie.Need-message-in-requires

@@ -1,21 +1,15 @@
 use Prim.Native.Nat.{ℕ}
-use mathlib.Core.Path.{_≡_, refl, sym, ap, _∙_}
+use mathlib.Core.Path.{refl, ap, _∙_}
 use mathlib.Core.Bool.{not}
 use lib.ListN.{getD}
 use denote.Ref.{now}
 use borrow.Author.Tests.{eq-eqb, ne-eqb}
 use Rattle.laws.specs.Choice.{then, else}
 use Rattle.slots.specs.Places.{messageCut}
-use Rattle.record_bytes.specs.Layout.{low32}
 use Rattle.link.specs.Message.{messageIn}
 use borrow.Author.Needs.{needs}
 use Rattle.link.proofs.message.message_in.Statement.{statement}
 use Rattle.link.proofs.message.message_in.Tie as tie
-use Rattle.link.proofs.message.message_in.Reads as reads
-use Rattle.link.proofs.message.message_in.Lts as lts
-use Rattle.link.proofs.message.slot_number.Reads as slot-number-reads
-use Rattle.record_bytes.proofs.word.word_at.Reads as word-at-reads
-use Rattle.slots.proofs.place.bytes_of.Reads as bytes-of-reads
 
 -- src/message.rt:25:9
 slice-aggregate-result : tie.Need-slice-aggregate-result

@@ -1,13 +1,9 @@
-use mathlib.Core.Path.{_≡_, refl, sym, ap, _∙_}
+use mathlib.Core.Path.{sym, ap, _∙_}
 use Rattle.link.specs.Packing.{packAnswer}
 use Rattle.link.proofs.Packs.{pack-put}
 use borrow.Author.Needs.{needs}
 use Rattle.link.proofs.pack.dwb_pack.Statement.{statement}
 use Rattle.link.proofs.pack.dwb_pack.Tie as tie
-use Rattle.link.proofs.pack.dwb_pack.Reads as reads
-use Rattle.link.proofs.pack.dwb_pack.Lts as lts
-use Rattle.link.proofs.pack.refused.Reads as refused-reads
-use Rattle.packing.proofs.pack.Reads as pack-reads
 
 -- src/pack.rt:23:11
 pack-requires : tie.Need-pack-requires

@@ -1,4 +1,4 @@
-use mathlib.Core.Path.{_≡_, refl, sym, ap, _∙_}
+use mathlib.Core.Path.{refl, ap}
 use mathlib.Core.Bool.{not}
 use lib.Dec.{eqb}
 use lib.ListN.{length}
@@ -10,15 +10,6 @@ use Rattle.link.proofs.Readings.{read-long, read-none, read-put}
 use borrow.Author.Needs.{needs}
 use Rattle.link.proofs.reading.dwb_reading.Statement.{statement}
 use Rattle.link.proofs.reading.dwb_reading.Tie as tie
-use Rattle.link.proofs.reading.dwb_reading.Reads as reads
-use Rattle.link.proofs.reading.dwb_reading.Lts as lts
-use Rattle.answer_bytes.proofs.ends.write_ends.Reads as write-ends-reads
-use Rattle.link.proofs.reading.kept_number.Reads as kept-number-reads
-use Rattle.link.proofs.reading.write_none.Reads as write-none-reads
-use Rattle.record_bytes.proofs.put.put_record.Reads as put-record-reads
-use Rattle.receiver.proofs.Receiver.reading.Reads as reading-reads
-use Rattle.record_bytes.proofs.layout.is_record.Reads as is-record-reads
-use Rattle.record_bytes.proofs.layout.record_at.Reads as record-at-reads
 
 -- src/reading.rt:45:9
 returns : tie.Need-returns

@@ -1,11 +1,8 @@
-use mathlib.Core.Path.{_≡_, refl, sym, ap, _∙_}
+use mathlib.Core.Path.{sym, ap, _∙_}
 use Rattle.link.specs.Reading.{keptNumber}
 use borrow.Author.Needs.{needs}
 use Rattle.link.proofs.reading.kept_number.Statement.{statement}
 use Rattle.link.proofs.reading.kept_number.Tie as tie
-use Rattle.link.proofs.reading.kept_number.Reads as reads
-use Rattle.link.proofs.reading.kept_number.Lts as lts
-use Rattle.frame.proofs.refusal.number.Reads as number-reads
 
 -- src/reading.rt:20:23
 enum-told : tie.Need-enum-told

@@ -1,11 +1,8 @@
-use mathlib.Core.Path.{_≡_, refl, sym, ap, _∙_}
+use mathlib.Core.Path.{_∙_}
 use Rattle.answer_bytes.specs.EndLaws.{none-ends}
 use borrow.Author.Needs.{needs}
 use Rattle.link.proofs.reading.write_none.Statement.{statement}
 use Rattle.link.proofs.reading.write_none.Tie as tie
-use Rattle.link.proofs.reading.write_none.Reads as reads
-use Rattle.link.proofs.reading.write_none.Lts as lts
-use Rattle.answer_bytes.proofs.ends.write_ends.Reads as write-ends-reads
 
 -- src/reading.rt:30:5
 write-ends-requires : tie.Need-write-ends-requires
