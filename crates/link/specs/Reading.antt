@@ -1,27 +1,31 @@
 -- A reading over lent bytes: 01, "Clock".
-use Prim.Native.Nat.{ℕ}
+use Prim.Native.Nat.{ℕ, _*_, _<_}
+use native.Mathlib.Omega.{arith}
 use mathlib.Core.Path.{_≡_, refl, sym, ap, _∙_}
 use mathlib.Core.Bool.{true, false, cond, not}
-use mathlib.Core.List.{List, [], _∷_}
+use mathlib.Core.List.{List, [], _∷_, map}
 use lib.Dec.{eqb}
-use lib.ListN.{length, take, replicate}
+use lib.ListN.{length, getD, take, drop, replicate, length-map, List·getD-map}
 use borrow.Author.Tests.{eq-eqb}
 use Rattle.laws.specs.Choice.{else}
 use Rattle.frame.specs.Refusals.{numberOf}
 use Rattle.frame.specs.declared.refusal.Refusal.the-variants.{Silence, OutOfBounds}
 use Rattle.session.specs.declared.Session.{Session}
+use Rattle.slots.specs.declared.Slot.{Slot}
+use Rattle.slots.specs.Slots.{freeSlot}
 use Rattle.receiver.specs.declared.Receiver.{Receiver}
 use Rattle.receiver.specs.declared.answer.End.the-variants as end
 use Rattle.receiver.specs.declared.answer.Kept.{Kept}
 use Rattle.receiver.specs.declared.answer.Kept.the-variants as kept
+use Rattle.receiver.specs.declared.answer.SlotEnd.{SlotEnd}
 use Rattle.receiver.specs.declared.answer.Elapsed.{Elapsed}
-use Rattle.receiver.specs.Calls.{isReady, endingOf, stays, readingStep}
+use Rattle.receiver.specs.Calls.{isReady, endingOf, endOf, slotEnd, stays, readingKept, readingStep}
 use Rattle.record_bytes.specs.Layout.{isRecord, recordAt}
 use Rattle.record_bytes.specs.Keeping.{putIn}
 use Rattle.record_bytes.specs.Kept.{Bytes, keep}
 use Rattle.answer_bytes.specs.Answers.{fieldsBytes}
 use Rattle.answer_bytes.specs.Ends.{endBytes, endsBytes}
-use Rattle.answer_bytes.specs.EndLaws.{none-ends}
+use Rattle.answer_bytes.specs.EndLaws.{end-place, none-ends}
 
 abbrev pub keptNumber : Kept → ℕ
 keptNumber kept.Kept = 0
@@ -58,3 +62,12 @@ reading-refused b a m t h r room e =
 pub silence-says : (s : Session) → take 2 (endBytes (end.Ended (endingOf s Silence))) ≡ 22 ∷ 7 ∷ []
 unfolding fieldsBytes
 silence-says s = refl
+
+-- the answer of slot i, at 36 times i: by whether its session was silent for the idle limit
+pub reading-answer : (r : Receiver) (t i : ℕ) → i < length (r .slots)
+    → take 36 (drop (36 * i) (endsBytes (readingKept r t .ends))) ≡ endBytes (endOf (r .limit) t (getD (r .slots) i freeSlot .state))
+reading-answer r t i h =
+    let f : Slot → SlotEnd = slotEnd (r .limit) t in
+    let n : length (map f (r .slots)) ≡ length (r .slots) = length-map (r .slots) f in
+    end-place (map f (r .slots)) i (f freeSlot) (omega arith)
+    ∙ ap (λ (e : SlotEnd). endBytes (e .end)) (List·getD-map f (r .slots) i freeSlot)
