@@ -1,21 +1,20 @@
 -- What the calls over lent bytes write, from what their parts say.
 use Prim.Native.Nat.{ℕ}
 use mathlib.Core.Path.{_≡_, refl, sym, ap, _∙_}
-use mathlib.Core.Bool.{Bool, true, false, not, _&&_}
-use mathlib.Core.List.{List, [], _∷_}
+use mathlib.Core.Bool.{Bool, true, false, not}
+use mathlib.Core.List.{List}
 use lib.Dec.{eqb}
 use lib.ListN.{length}
-use borrow.Author.Tests.{eq-eqb, eqb-true, not-false}
-use Rattle.laws.specs.Choice.{else, each-of}
+use borrow.Author.Tests.{eq-eqb}
+use Rattle.laws.specs.Choice.{else}
 use Rattle.receiver.specs.declared.Receiver.{Receiver}
-use Rattle.receiver.specs.declared.answer.Stepped.{Stepped}
+use Rattle.receiver.specs.declared.answer.Answer.{Answer}
 use Rattle.receiver.specs.Bounds.{openedWith}
 use Rattle.receiver.specs.Answers.{answerNumber}
-use Rattle.receiver.specs.Calls.{frameStep, frameStore}
-use Rattle.record_bytes.specs.Layout.{recordBytes, storedIn, isRecord, recordAt}
-use Rattle.record_bytes.specs.Pieces.{record-long}
+use Rattle.record_bytes.specs.Layout.{recordBytes, storedIn}
+use Rattle.in_place.specs.Seen.{Seen, frameIn}
 use Rattle.answer_bytes.specs.Answers.{answerBytes}
-use Rattle.link.specs.Calls.{openingNumber, openedIn, framedBy, framedIn}
+use Rattle.link.specs.Calls.{openingNumber, openedIn, told, framedIn}
 
 stored-whole : (r : Receiver) (d o : List ℕ) (w : Bool) → length d ≡ 249 → (w, o) ≡ storedIn r d → o ≡ recordBytes r
 unfolding storedIn
@@ -33,25 +32,9 @@ module _ (own limit reading : ℕ) (d : List ℕ) where
       (ap (λ (x : ℕ). (x, o)) en
       ∙ ap (λ (l : List ℕ). (openingNumber (record { 0 = own }) limit, l)) (stored-whole R d o w long e ∙ ap recordBytes eR))
 
-module _ (b a : List ℕ) (t : Bool) (et : t ≡ isRecord b) (h : not (t && eqb (length a) 36) ≡ false) where
-  both-ready : (t ≡ true) × (eqb (length a) 36 ≡ true)
-  both-ready = let e = each-of (t ∷ eqb (length a) 36 ∷ []) (not-false _ h) in (e .0, e .1 .0)
-
-  pub record-ready : length b ≡ 249
-  record-ready = record-long b (sym et ∙ both-ready .0)
-
-  pub answer-ready : length a ≡ 36
-  answer-ready = eqb-true _ _ (both-ready .1)
-
-  pub framed-put : (id : ℕ) (d m : List ℕ) (R : Receiver) (X : Stepped) (w : Bool) (n : ℕ) (ob om oa : List ℕ)
-      → R ≡ recordAt b → X ≡ frameStep R id d m → om ≡ frameStore R id d m → (w, ob) ≡ storedIn (X .next) b
-      → oa ≡ answerBytes (X .answer) → n ≡ answerNumber (X .answer) → (n, (ob, (om, oa))) ≡ framedIn b id d m a
-  unfolding framedIn
-  framed-put id d m R X w n ob om oa eR eX em eb ea en =
-      else (not (isRecord b && eqb (length a) 36)) _ _ _ (ap (λ (x : Bool). not (x && eqb (length a) 36)) (sym et) ∙ h)
-      (ap (λ (x : ℕ). (x, (ob, (om, oa)))) en
-      ∙ ap (λ (l : List ℕ). (answerNumber (X .answer), (l, (om, oa)))) (stored-whole (X .next) b ob w record-ready eb)
-      ∙ ap (λ (l : List ℕ). (answerNumber (X .answer), (recordBytes (X .next), (l, oa)))) em
-      ∙ ap (λ (l : List ℕ). (answerNumber (X .answer), (recordBytes (X .next), (frameStore R id d m, l)))) ea
-      ∙ ap (λ (x : Stepped). (answerNumber (x .answer), (recordBytes (x .next), (frameStore R id d m, answerBytes (x .answer))))) eX
-      ∙ ap (λ (r : Receiver). framedBy r id d m) eR)
+pub framed-put : (b : List ℕ) (id : ℕ) (d m a : List ℕ) (x : Answer) (n : ℕ) (ob om oa : List ℕ) → length a ≡ 36 → _≡_ {A = Seen} (x, (ob, om)) (frameIn b id d m) → oa ≡ answerBytes x → n ≡ answerNumber x
+    → _≡_ {A = ℕ × (List ℕ × (List ℕ × List ℕ))} (n, (ob, (om, oa))) (framedIn b id d m a)
+unfolding framedIn
+framed-put b id d m a x n ob om oa long e ea en =
+    else (not (eqb (length a) 36)) _ _ _ (ap not (eq-eqb _ _ long))
+    (ap (λ (k : ℕ). (k, (ob, (om, oa)))) en ∙ ap (λ (l : List ℕ). (answerNumber x, (ob, (om, l)))) ea ∙ ap told e)

@@ -7,11 +7,10 @@ use answer_bytes::answer::write_answer;
 use frame::Address;
 use frame::length::Least;
 use frame::length::least_length;
+use in_place::call::take_frame;
 use receiver::Receiver;
 use receiver::answer::number;
 use record_bytes::layout::RECORD_BYTES;
-use record_bytes::layout::is_record;
-use record_bytes::layout::record_at;
 use record_bytes::layout::write_record;
 use slots::bounds::opening_ok;
 
@@ -51,8 +50,8 @@ pub extern "C" fn dwb_open(buffer: &mut [u8], own: u8, limit: u32, reading: u32)
     opening_number(Address(own), limit)
 }
 
-// Takes one frame: the answer's number, with the record, the store and the answer written; 23 with all as it was where a buffer is no
-// record or the answer's has another length.
+// Takes one frame: the answer's number, with the answer written, and the record and the store as the answer says. 23 with all as it was
+// where the answer's buffer has another length.
 #[no_mangle]
 pub extern "C" fn dwb_frame(
     buffer: &mut [u8],
@@ -63,14 +62,10 @@ pub extern "C" fn dwb_frame(
 ) -> u8
     ensures { λ x. ⌜ (x, (now (buffer .exit), (now (store .exit), now (answer .exit)))) ≡ framedIn (now (buffer .entry)) id (now (bytes .entry)) (now (store .entry)) (now (answer .entry)) ⌝ }
 {
-    if !(is_record(buffer) & (answer.len() == ANSWER_BYTES)) {
+    if answer.len() != ANSWER_BYTES {
         return 23;
     }
-    let r = record_at(buffer);
-    let stepped = r.frame(id, bytes, store);
-    let next = stepped.next;
-    let a = stepped.answer;
-    write_record(next, buffer);
+    let a = take_frame(buffer, id, bytes, store);
     write_answer(a, answer);
     number(a)
 }

@@ -90,7 +90,8 @@ pub fn slot_bytes(s: Slot) -> [u8; 30]
     }
 }
 
-fn session_at(piece: &[u8]) -> Session
+// The session that an open slot's piece says.
+pub fn session_at(piece: &[u8]) -> Session
     requires { ⌜ length (now piece) ≡ 30 ⌝ }
     ensures { λ r. ⌜ r ≡ sessionAt (now (piece .entry)) ⌝ }
 {

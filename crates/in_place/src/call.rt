@@ -1,0 +1,76 @@
+// A frame taken by the record that a lent buffer holds: 23, 2, 1, 3, then 9 and the rest by kind (01, "Numbered refusals").
+ghost use mathlib.Core.Path.{_≡_};
+ghost use mathlib.Core.Bool.{true};
+ghost use lib.ListN.{length};
+ghost use Rattle.multi_pg.specs.Groups.{judgementOf, reading};
+ghost use Rattle.transport.specs.Control.{keyOf};
+ghost use Rattle.transport.specs.Segments.{dataFrameOf};
+ghost use Rattle.receiver.specs.Bounds.{inBounds};
+ghost use Rattle.receiver.specs.Calls.{onData, frameAll};
+ghost use Rattle.record_bytes.specs.Layout.{recordAt};
+ghost use Rattle.in_place.specs.Seen.{Holds, groupsAnswer, seenIn, frameIn};
+use super::segment::segment;
+use frame::judge::Route;
+use frame::judge::Verdict;
+use frame::judge::judge;
+use frame::refusal::Refusal;
+use lent_record::ready::is_ready;
+use lent_record::ready::own_of;
+use multi_pg::Judgement;
+use multi_pg::read;
+use receiver::answer::Answer;
+use record_bytes::layout::record_at;
+use record_bytes::put::put_record;
+use transport::control::key_of;
+use transport::segment::DataFrame;
+use transport::segment::read_segment;
+
+// A Multi-PG frame, judged whole; the record is not looked at.
+fn groups(bytes: &[u8]) -> Answer
+    ensures { λ x. ⌜ x ≡ groupsAnswer (judgementOf (reading (now (bytes .entry)))) ⌝ }
+{
+    match read::judge(bytes) {
+        Judgement::Good => Answer::Groups,
+        Judgement::Refused(n) => Answer::Refused(n),
+    }
+}
+
+// A data frame.
+fn data_frame(buffer: &mut [u8], route: Route, bytes: &[u8], store: &mut [u8]) -> Answer
+    requires { ⌜ (inBounds (recordAt (now buffer)) ≡ true) × (length (now store) ≡ 32768) × (length (now buffer) ≡ 249) × Holds (now buffer) ⌝ }
+    ensures { λ x. ⌜ (x, (now (buffer .exit), now (store .exit))) ≡ seenIn (now (buffer .entry)) (onData (dataFrameOf (now (bytes .entry))) (recordAt (now (buffer .entry))) (keyOf route (now (bytes .entry))) (now (bytes .entry)) (now (store .entry))) ⌝ }
+{
+    let k = key_of(route, bytes);
+    match read_segment(bytes) {
+        DataFrame::Segment(sg) => segment(buffer, k, sg, bytes, store),
+        DataFrame::Refused(n) => Answer::Refused(n),
+    }
+}
+
+// Any frame, by way of the whole record: a control frame is rare, and may open or end a session.
+fn whole(buffer: &mut [u8], id: u32, bytes: &[u8], store: &mut [u8]) -> Answer
+    requires { ⌜ length (now buffer) ≡ 249 ⌝ }
+    ensures { λ x. ⌜ (x, (now (buffer .exit), now (store .exit))) ≡ seenIn (now (buffer .entry)) (frameAll (recordAt (now (buffer .entry))) id (now (bytes .entry)) (now (store .entry))) ⌝ }
+{
+    let r = record_at(buffer);
+    let stepped = r.frame(id, bytes, store);
+    let next = stepped.next;
+    put_record(next, buffer);
+    stepped.answer
+}
+
+// Takes one frame.
+pub fn take_frame(buffer: &mut [u8], id: u32, bytes: &[u8], store: &mut [u8]) -> Answer
+    ensures { λ x. ⌜ (x, (now (buffer .exit), now (store .exit))) ≡ frameIn (now (buffer .entry)) id (now (bytes .entry)) (now (store .entry)) ⌝ }
+{
+    if !is_ready(buffer, store.len()) {
+        return Answer::Refused(Refusal::OutOfBounds);
+    }
+    let own = own_of(buffer);
+    match judge(id, bytes.len(), own) {
+        Verdict::MultiPg(_) => groups(bytes),
+        Verdict::Control(_) => whole(buffer, id, bytes, store),
+        Verdict::Data(route) => data_frame(buffer, route, bytes, store),
+        Verdict::Refused(n) => Answer::Refused(n),
+    }
+}

@@ -1,0 +1,130 @@
+-- A record's pieces judged one after the other, and that this is the judgement of codes and slots.
+use Prim.Native.Nat.{ℕ, zero, suc, _+_, _*_, _<_}
+use native.Mathlib.Omega.{arith}
+use mathlib.Core.Path.{_≡_, refl, sym, ap, _∙_}
+use mathlib.Core.Bool.{Bool, true, false, cond, not, _&&_, _||_, false≢true}
+use mathlib.Core.List.{List, [], _∷_, map}
+use lib.Dec.{eqb}
+use lib.ListN.{length, getD, take, drop}
+use borrow.Author.Tests.{eqb-true}
+use Rattle.laws.specs.Turn.{turn}
+use Rattle.frame.specs.declared.Address.{Address}
+use Rattle.session.specs.declared.Session.{Session}
+use Rattle.slots.specs.declared.Slot.{Slot}
+use Rattle.slots.specs.declared.SlotState.the-variants.{Free, Open}
+use Rattle.slots.specs.Bounds.{openingOk, sessionOk, stateOk, anyHolds, stateTwin, slotsOk}
+use Rattle.receiver.specs.Bounds.{inBounds}
+use Rattle.record_bytes.specs.Layout.{codesOk, sessionAt, slotAt, piecesOf, slotsAt, codesAll, isRecord, recordAt}
+use Rattle.record_bytes.specs.Pieces.{length-pieces, piece-of, byte-of}
+use Rattle.lent_record.specs.Ready.{readyIn}
+
+-- a slot whose first byte is not 0, with the pieces after it
+unfoldable pub openReady : Address → List ℕ → List (List ℕ) → Bool
+openReady own p ps =
+    codesOk (getD p 0 0) (getD p 1 0) && sessionOk own (sessionAt p) && not (anyHolds (sessionAt p .key) (map slotAt ps))
+
+unfoldable pub piecesReady : Address → List (List ℕ) → Bool
+piecesReady own [] = true
+piecesReady own (p ∷ ps) = (eqb (getD p 0 0) 0 || openReady own p ps) && piecesReady own ps
+
+-- ---- the same as all codes, and then all slots
+
+in-order : (q o t c s : Bool) → (q && o && not t && (c && s)) ≡ (cond (not q) false c && (o && not t && s))
+in-order true true true true s = refl
+in-order true true true false s = refl
+in-order true true false c s = refl
+in-order true false t true s = refl
+in-order true false t false s = refl
+in-order false o t c s = refl
+
+-- x: the first byte is 0; y: it is 1; q: the second is a kind
+by-code : (own : Address) (s : Session) (ss : List Slot) (x y q c r : Bool) → (x ≡ true → y ≡ true → false ≡ true)
+    → ((x || ((x || (y && q)) && sessionOk own s && not (anyHolds (s .key) ss))) && (c && r))
+    ≡ (cond (not (x || (y && q))) false c && (stateOk own (cond y (Open s) Free) && not (stateTwin (cond y (Open s) Free) ss) && r))
+by-code own s ss true true q c r only = absurd (false≢true (only refl refl))
+by-code own s ss true false q c r only = refl
+by-code own s ss false true q c r only = in-order q (sessionOk own s) (anyHolds (s .key) ss) c r
+by-code own s ss false false q c r only = refl
+
+two-codes : (n : ℕ) → eqb n 0 ≡ true → eqb n 1 ≡ true → false ≡ true
+two-codes n e f = ap (λ (k : ℕ). eqb k 1) (sym (eqb-true n 0 e)) ∙ f
+
+pub pieces-ready : (own : Address) (ps : List (List ℕ)) → piecesReady own ps ≡ (codesAll ps && slotsOk own (map slotAt ps))
+unfolding piecesReady openReady codesAll slotsOk
+pieces-ready own [] = refl
+pieces-ready own (p ∷ ps) =
+    let n : ℕ = getD p 0 0 in
+    let k : ℕ = getD p 1 0 in
+    ap (λ (t : Bool). (eqb n 0 || (codesOk n k && sessionOk own (sessionAt p) && not (anyHolds (sessionAt p .key) (map slotAt ps)))) && t) (pieces-ready own ps)
+    ∙ by-code own (sessionAt p) (map slotAt ps) (eqb n 0) (eqb n 1) (eqb k 1 || eqb k 2) (codesAll ps) (slotsOk own (map slotAt ps)) (two-codes n)
+
+-- what is left to judge from slot i on
+pub ready-turn : (own : Address) (b : List ℕ) (i : ℕ) → i < 8
+    → piecesReady own (drop i (piecesOf b)) ≡ ((eqb (getD b (9 + 30 * i) 0) 0 || openReady own (getD (piecesOf b) i []) (drop (i + 1) (piecesOf b))) && piecesReady own (drop (i + 1) (piecesOf b)))
+unfolding piecesReady
+ready-turn own b i h =
+    let at : ℕ = 9 + 30 * i in
+    let ps : List (List ℕ) = drop (i + 1) (piecesOf b) in
+    let e : at + 0 ≡ at = omega arith in
+    turn (piecesReady own) (piecesOf b) i [] (omega (arith, length-pieces 8 (drop 9 b)))
+    ∙ ap (λ (x : ℕ). (eqb x 0 || openReady own (getD (piecesOf b) i []) ps) && piecesReady own ps) (byte-of b i 0 h (omega arith) ∙ ap (λ (m : ℕ). getD b m 0) e)
+
+-- ---- slot i by what was read of it: its two codes, its session, and whether its key is open behind it
+
+drop-map : (ps : List (List ℕ)) (n : ℕ) → drop n (map slotAt ps) ≡ map slotAt (drop n ps)
+drop-map ps zero = refl
+drop-map [] (suc n) = refl
+drop-map (p ∷ ps) (suc n) = drop-map ps n
+
+module _ (own : Address) (b : List ℕ) (i : ℕ) (h : i < 8) where
+  module _ (x : Bool) (ex : x ≡ codesOk (getD b (9 + 30 * i) 0) (getD b (9 + 30 * i + 1) 0)) where
+    judged : (y z : Bool) (s : Session) → s ≡ sessionAt (take 30 (drop (9 + 30 * i) b)) → y ≡ sessionOk own s → z ≡ anyHolds (s .key) (drop (i + 1) (slotsAt b))
+        → (x && y && not z) ≡ openReady own (getD (piecesOf b) i []) (drop (i + 1) (piecesOf b))
+    unfolding openReady
+    judged y z s es ey ez =
+        let at : ℕ = 9 + 30 * i in
+        let p : List ℕ = getD (piecesOf b) i [] in
+        let ss : List Slot = drop (i + 1) (slotsAt b) in
+        let e : at ≡ at + 0 = omega arith in
+        ap (λ (u : Bool). u && y && not z) (ex
+        ∙ ap (λ (n : ℕ). codesOk n (getD b (at + 1) 0)) (ap (λ (m : ℕ). getD b m 0) e ∙ sym (byte-of b i 0 h (omega arith)))
+        ∙ ap (codesOk (getD p 0 0)) (sym (byte-of b i 1 h (omega arith))))
+        ∙ ap (λ (u : Bool). codesOk (getD p 0 0) (getD p 1 0) && u && not z) ey
+        ∙ ap (λ (u : Bool). codesOk (getD p 0 0) (getD p 1 0) && sessionOk own s && not u) ez
+        ∙ ap (λ (v : Session). codesOk (getD p 0 0) (getD p 1 0) && sessionOk own v && not (anyHolds (v .key) ss)) (es ∙ ap sessionAt (sym (piece-of b i h)))
+        ∙ ap (λ (l : List Slot). codesOk (getD p 0 0) (getD p 1 0) && sessionOk own (sessionAt p) && not (anyHolds (sessionAt p .key) l)) (drop-map (piecesOf b) (i + 1))
+
+    pub no-codes : x ≡ false → false ≡ openReady own (getD (piecesOf b) i []) (drop (i + 1) (piecesOf b))
+    no-codes f =
+        let s : Session = sessionAt (take 30 (drop (9 + 30 * i) b)) in
+        let z : Bool = anyHolds (s .key) (drop (i + 1) (slotsAt b)) in
+        ap (λ (u : Bool). u && sessionOk own s && not z) (sym f) ∙ judged (sessionOk own s) z s refl refl refl
+
+    module _ (t : x ≡ true) (y : Bool) (s : Session) (es : s ≡ sessionAt (take 30 (drop (9 + 30 * i) b))) (ey : y ≡ sessionOk own s) where
+      pub no-bounds : y ≡ false → false ≡ openReady own (getD (piecesOf b) i []) (drop (i + 1) (piecesOf b))
+      no-bounds f =
+          let z : Bool = anyHolds (s .key) (drop (i + 1) (slotsAt b)) in
+          ap (λ (u : Bool). u && false && not z) (sym t) ∙ ap (λ (u : Bool). x && u && not z) (sym f) ∙ judged y z s es ey refl
+
+      pub no-twin : y ≡ true → (z : Bool) → z ≡ anyHolds (s .key) (drop (i + 1) (slotsAt b)) → not z ≡ openReady own (getD (piecesOf b) i []) (drop (i + 1) (piecesOf b))
+      no-twin g z ez =
+          ap (λ (u : Bool). u && true && not z) (sym t) ∙ ap (λ (u : Bool). x && u && not z) (sym g) ∙ judged y z s es ey ez
+
+-- ---- the whole buffer: length, store and opening values, and then the pieces
+
+reorder : (l c s o k : Bool) → (cond (not l) false c && (s && (o && k))) ≡ (l && (s && (o && (c && k))))
+reorder true true s o k = refl
+reorder true false true true k = refl
+reorder true false true false k = refl
+reorder true false false o k = refl
+reorder false c s o k = refl
+
+pub ready-in : (b : List ℕ) (store : ℕ)
+    → readyIn b store
+    ≡ (eqb (length b) 249 && (eqb store 32768 && (openingOk (recordAt b .own) (recordAt b .limit) && piecesReady (recordAt b .own) (piecesOf b))))
+unfolding readyIn isRecord inBounds
+ready-in b store =
+    let own : Address = recordAt b .own in
+    let opening : Bool = openingOk own (recordAt b .limit) in
+    reorder (eqb (length b) 249) (codesAll (piecesOf b)) (eqb store 32768) opening (slotsOk own (slotsAt b))
+    ∙ ap (λ (t : Bool). eqb (length b) 249 && (eqb store 32768 && (opening && t))) (sym (pieces-ready own (piecesOf b)))

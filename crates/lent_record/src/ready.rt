@@ -1,0 +1,79 @@
+// Whether a lent buffer is a record in bounds: each call asks it first (01, "Numbered refusals", 23).
+ghost use mathlib.Core.Path.{_≡_};
+ghost use Prim.Native.Nat.{ℕ, _+_, _<_, _≤_};
+ghost use mathlib.Core.List.{[]};
+ghost use lib.ListN.{length, getD, drop};
+ghost use Rattle.record_bytes.specs.Layout.{piecesOf};
+ghost use Rattle.lent_record.specs.Ready.{readyIn};
+ghost use Rattle.lent_record.specs.Judged.{openReady, piecesReady};
+use super::search::any_holds;
+use frame::Address;
+use receiver::Receiver;
+use record_bytes::layout::HEAD_BYTES;
+use record_bytes::layout::RECORD_BYTES;
+use record_bytes::slot::SLOT_BYTES;
+use record_bytes::slot::codes_ok;
+use record_bytes::slot::session_at;
+use record_bytes::word::word_at;
+use slots::SLOTS;
+use slots::bounds::opening_ok;
+use slots::bounds::session_ok;
+
+// The own address. What is lent are bytes: each is below 256.
+pub fn own_of(bytes: &[u8]) -> Address
+    requires { ⌜ 1 ≤ length (now bytes) ⌝ }
+    ensures { λ r. ⌜ (r .0 ≡ getD (now (bytes .entry)) 0 0) × ((i : ℕ) → getD (now (bytes .entry)) i 0 < 256) ⌝ }
+{
+    Address(bytes[0])
+}
+
+// Whether slot i, which is not free, begins with codes, is in bounds, and has no twin behind it.
+fn open_ready(bytes: &[u8], i: usize, own: Address) -> bool
+    requires { ⌜ (length (now bytes) ≡ 249) × (i < 8) ⌝ }
+    ensures { λ r. ⌜ r ≡ openReady own (getD (piecesOf (now (bytes .entry))) i []) (drop (i + 1) (piecesOf (now (bytes .entry)))) ⌝ }
+{
+    let at = HEAD_BYTES + SLOT_BYTES * i;
+    if !codes_ok(bytes[at], bytes[at + 1]) {
+        return false;
+    }
+    let end = at + SLOT_BYTES;
+    let s = session_at(&bytes[at..end]);
+    if !session_ok(s, own) {
+        return false;
+    }
+    !any_holds(bytes, i + 1, s.key)
+}
+
+// A free slot costs one byte's test.
+fn slots_ready(bytes: &[u8], own: Address) -> bool
+    requires { ⌜ length (now bytes) ≡ 249 ⌝ }
+    ensures { λ r. ⌜ r ≡ piecesReady own (piecesOf (now (bytes .entry))) ⌝ }
+{
+    let mut i: usize = 0;
+    while i < SLOTS {
+        if bytes[HEAD_BYTES + SLOT_BYTES * i] != 0 {
+            if !open_ready(bytes, i, own) {
+                return false;
+            }
+        }
+        i = i + 1;
+    }
+    true
+}
+
+// Whether the buffer is a record in bounds, and a store of so many bytes has the right length.
+pub fn is_ready(bytes: &[u8], store: usize) -> bool
+    ensures { λ r. ⌜ r ≡ readyIn (now (bytes .entry)) store ⌝ }
+{
+    if bytes.len() != RECORD_BYTES {
+        return false;
+    }
+    if store != Receiver::SLOTS * Receiver::SLOT_BYTES {
+        return false;
+    }
+    let own = Address(bytes[0]);
+    if !opening_ok(own, word_at(bytes, 1)) {
+        return false;
+    }
+    slots_ready(bytes, own)
+}
