@@ -1,13 +1,13 @@
 -- What a frame hands over is what is copied out of the store after it: 01, the last paragraph of "Life of a session".
 use Prim.Native.Nat.{ℕ, _+_, _≤_, _<_}
 use native.Mathlib.Omega.{arith}
-use mathlib.Core.Path.{_≡_, refl, ap, subst, _∙_}
+use mathlib.Core.Path.{_≡_, refl, sym, ap, subst, _∙_}
 use mathlib.Core.Bool.{Bool, true, false, cond, not}
 use mathlib.Core.List.{List, [], _∷_, _++_}
 use lib.Dec.{eqb}
 use lib.ListN.{length, getD, drop, length-map}
-use borrow.Author.Tests.{eqb-true}
-use Rattle.laws.specs.Choice.{each-of}
+use borrow.Author.Tests.{eqb-true, eq-eqb}
+use Rattle.laws.specs.Choice.{else, each-of}
 use Rattle.frame.specs.Judge.{judged}
 use Rattle.frame.specs.declared.judge.Verdict.{Verdict}
 use Rattle.frame.specs.declared.judge.Verdict.the-variants as verdict
@@ -53,6 +53,9 @@ use Rattle.receiver.specs.Calls.{Outcome, isReady, refused, rejected, openedIn,
 use Rattle.record_bytes.specs.Layout.{piecesOf, slotAt, recordAt}
 use Rattle.record_bytes.specs.Pieces.{length-pieces}
 use Rattle.answer_bytes.specs.Answers.{answerBytes}
+use Rattle.lent_record.specs.Ready.{readyIn}
+use Rattle.in_place.specs.Seen.{Seen, seenIn, frameIn}
+use Rattle.link.specs.Calls.{told, framedIn}
 use Rattle.link.specs.Message.{copiedIn, message-copied}
 
 -- a message of at most 4,096 bytes, in one of the eight slots of the store as it was
@@ -195,16 +198,33 @@ module _ (r : Receiver) (id : ℕ) (d m : List ℕ) (eight : length (r .slots) �
           verdict-fine m r (eqb-true _ _ (ready .0)) eight (each-of (openingOk (r .own) (r .limit) ∷ slotsOk (r .own) (r .slots) ∷ []) (ready .1 .0) .1 .0) (judged (r .own) id (length d)) d
       by false h = tt
 
-  -- a message that a frame hands over lies in the store, which the frame left as it was
-  pub frame-lies : (x : Message) → frameStep r id d m .answer ≡ answer.HandedOver x → Lies m (frameStore r id d m) x
-  frame-lies x e = subst (LiesIn m (frameStore r id d m)) e frame-fine
+module _ (b : List ℕ) (id : ℕ) (d m : List ℕ) where
+  seen-fine : LiesIn m (frameIn b id d m .1 .1) (frameIn b id d m .0)
+  unfolding frameIn
+  seen-fine = by (readyIn b (length m))
+    where
+      eight : length (recordAt b .slots) ≡ 8
+      eight = length-map (piecesOf b) slotAt ∙ length-pieces 8 (drop 9 b)
 
--- what is copied with the answer and the store that a frame left is the message that it handed over
-pub handed-copied : (b d m out : List ℕ) (id : ℕ) (x : Message) → frameStep (recordAt b) id d m .answer ≡ answer.HandedOver x → x .total .0 ≤ length out
-    → copiedIn (answerBytes (frameStep (recordAt b) id d m .answer)) (frameStore (recordAt b) id d m) out ≡ (x .total .0, messageBytes x m ++ drop (x .total .0) out)
-handed-copied b d m out id x e room =
-    let eight : length (recordAt b .slots) ≡ 8 = length-map (piecesOf b) slotAt ∙ length-pieces 8 (drop 9 b) in
-    let l : Lies m (frameStore (recordAt b) id d m) x = frame-lies (recordAt b) id d m eight x e in
-    ap (λ (y : Answer). copiedIn (answerBytes y) (frameStore (recordAt b) id d m) out) e
-    ∙ ap (λ (s : List ℕ). copiedIn (answerBytes (answer.HandedOver x)) s out) (l .store)
-    ∙ message-copied x m (l .slot) (l .total) (l .whole) out room
+      made : Bool → Seen
+      made t = cond t (seenIn b (frameAll (recordAt b) id d m)) (answer.Refused OutOfBounds, (b, m))
+
+      by : (t : Bool) → LiesIn m (made t .1 .1) (made t .0)
+      by true = frame-fine (recordAt b) id d m eight
+      by false = tt
+
+  -- a message that a frame hands over lies in the store, which the frame left as it was
+  pub frame-lies : (x : Message) → frameIn b id d m .0 ≡ answer.HandedOver x → Lies m (frameIn b id d m .1 .1) x
+  frame-lies x e = subst (LiesIn m (frameIn b id d m .1 .1)) e seen-fine
+
+  -- what is copied with the answer and the store that a frame left is the message that it handed over
+  pub handed-copied : (a out : List ℕ) (x : Message) → length a ≡ 36 → frameIn b id d m .0 ≡ answer.HandedOver x → x .total .0 ≤ length out
+      → copiedIn (framedIn b id d m a .1 .1 .1) (framedIn b id d m a .1 .1 .0) out ≡ (x .total .0, messageBytes x m ++ drop (x .total .0) out)
+  unfolding framedIn
+  handed-copied a out x long e room =
+      let l : Lies m (frameIn b id d m .1 .1) x = frame-lies x e in
+      let w : told (frameIn b id d m) ≡ framedIn b id d m a = else (not (eqb (length a) 36)) _ _ _ (ap not (eq-eqb _ _ long)) refl in
+      ap (λ (f : ℕ × (List ℕ × (List ℕ × List ℕ))). copiedIn (f .1 .1 .1) (f .1 .1 .0) out) (sym w)
+      ∙ ap (λ (y : Answer). copiedIn (answerBytes y) (frameIn b id d m .1 .1) out) e
+      ∙ ap (λ (s : List ℕ). copiedIn (answerBytes (answer.HandedOver x)) s out) (l .store)
+      ∙ message-copied x m (l .slot) (l .total) (l .whole) out room
