@@ -1,1 +1,4 @@
 pub mod Exports
+pub mod Packs
+pub mod Messages
+pub mod Readings
