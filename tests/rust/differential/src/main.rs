@@ -38,7 +38,10 @@ fn main() -> ExitCode {
         whole.add(&tally);
     }
     let sent_met = run_samples(&mut whole, &mut faults);
-    print_whole(&whole, &mut faults);
+    print_whole(&whole);
+    if faults.0.is_empty() {
+        check_whole(&whole, &mut faults);
+    }
     println!("in {:.1} s", start.elapsed().as_secs_f64());
     if faults.0.is_empty() {
         println!("rust: {} calls compared, {sent_met} sent frames met", whole.calls);
@@ -52,6 +55,7 @@ fn main() -> ExitCode {
 /// One kind of traffic over all seeds; each seed ends at its first difference.
 fn run_kind(kind: &traffic::Kind, number: u64, faults: &mut Faults) -> Tally {
     let mut tally = Tally::default();
+    let before = faults.0.len();
     for seed in SEEDS {
         let mut random = Random::new(seed << 8 | number);
         let mut pair = Pair::new(&mut random);
@@ -62,8 +66,9 @@ fn run_kind(kind: &traffic::Kind, number: u64, faults: &mut Faults) -> Tally {
         }
         tally.add(&pair.tally);
     }
-    for &refusal in kind.must_refuse {
-        if tally.numbers[usize::from(refusal)] == 0 {
+    // A run that was cut short need not have met everything.
+    if faults.0.len() == before {
+        for refusal in kind.must_refuse.iter().filter(|&&refusal| tally.numbers[usize::from(refusal)] == 0) {
             faults.add(format!("{}: refusal {refusal} never came up", kind.name));
         }
     }
@@ -105,11 +110,14 @@ fn print_tally(name: &str, tally: &Tally) {
     );
 }
 
-/// Every refusal and every code has to have come up.
-fn print_whole(whole: &Tally, faults: &mut Faults) {
+fn print_whole(whole: &Tally) {
     print_tally("all", whole);
     let codes: Vec<String> = (1..CODES.len()).map(|code| format!("{} {}", CODES[code], whole.codes[code])).collect();
     println!("answers: {}", codes.join(", "));
+}
+
+/// Every refusal and every answer has to have come up.
+fn check_whole(whole: &Tally, faults: &mut Faults) {
     for (number, _) in whole.numbers.iter().enumerate().skip(1).filter(|(_, &count)| count == 0) {
         faults.add(format!("refusal {number} never came up"));
     }

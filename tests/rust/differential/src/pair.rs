@@ -4,7 +4,7 @@
 use crate::random::Random;
 use rules::calls::{self, Code, ANSWERS_BYTES, ANSWER_BYTES, GROUPS_WORDS, RECORD_BYTES};
 use rules::receiver::{Receiver, STORE_BYTES};
-use std::fmt::Debug;
+use std::fmt::{Debug, Display};
 
 /// Bytes before and behind each lent buffer, which no call may touch.
 const GUARD: usize = 64;
@@ -58,7 +58,40 @@ impl<T: Copy + PartialEq + Debug> Buffer<T> {
     }
 }
 
+/// The calls of one side.
+#[allow(clippy::type_complexity)]
+struct Calls {
+    least_length: fn(usize) -> usize,
+    open: fn(&mut [u8], u8, u32, u32) -> u8,
+    frame: fn(&mut [u8], u32, &[u8], &mut [u8], &mut [u8]) -> u8,
+    reading: fn(&mut [u8], u32, &[u8], &mut [u8]) -> u8,
+    message: fn(&[u8], &[u8], &mut [u8]) -> usize,
+    groups: fn(&[u8], &mut [u32]) -> usize,
+    pack: fn(&[u32], &[u8], &[u8], &mut [u8]) -> usize,
+}
+
+const RULES: Calls = Calls {
+    least_length: calls::least_length,
+    open: calls::open,
+    frame: calls::frame,
+    reading: calls::reading,
+    message: calls::message,
+    groups: calls::groups,
+    pack: calls::pack,
+};
+
+const ARCHIVE: Calls = Calls {
+    least_length: boundary::least_length,
+    open: boundary::open,
+    frame: boundary::frame,
+    reading: boundary::reading,
+    message: boundary::message,
+    groups: boundary::groups,
+    pack: boundary::pack,
+};
+
 struct Side {
+    calls: Calls,
     record: Buffer<u8>,
     store: Buffer<u8>,
     answer: Buffer<u8>,
@@ -68,8 +101,9 @@ struct Side {
 }
 
 impl Side {
-    fn new() -> Side {
+    fn new(calls: Calls) -> Side {
         Side {
+            calls,
             record: Buffer::new(LARGEST.record, 0xC1),
             store: Buffer::new(LARGEST.store, 0xC2),
             answer: Buffer::new(LARGEST.answer, 0xC3),
@@ -120,7 +154,7 @@ impl Tally {
 
 pub struct Pair {
     rules: Side,
-    link: Side,
+    archive: Side,
     /// The sizes that the next call lends.
     pub sizes: Sizes,
     pub tally: Tally,
@@ -156,32 +190,37 @@ impl Given {
 
 macro_rules! same {
     ($pair:ident, $call:expr, $($buffer:ident),*) => {
-        $(if let Some(difference) = $pair.rules.$buffer.difference(&$pair.link.$buffer) {
+        $(if let Some(difference) = $pair.rules.$buffer.difference(&$pair.archive.$buffer) {
             return Err(Difference(format!("{}: {} {difference}", $call(), stringify!($buffer))));
         })*
     };
 }
 
+fn hex(bytes: &[u8]) -> String {
+    bytes.iter().map(|byte| format!("{byte:02X}")).collect()
+}
+
 impl Pair {
     /// Nothing opened yet; the stores hold the same random bytes.
     pub fn new(random: &mut Random) -> Pair {
-        let mut pair = Pair { rules: Side::new(), link: Side::new(), sizes: RIGHT, tally: Tally::default(), noise: 0 };
+        let (rules, archive) = (Side::new(RULES), Side::new(ARCHIVE));
+        let mut pair = Pair { rules, archive, sizes: RIGHT, tally: Tally::default(), noise: 0 };
         pair.fill_store(random);
         pair
     }
 
     pub fn fill_store(&mut self, random: &mut Random) {
         random.fill(self.rules.store.lent_mut(LARGEST.store));
-        self.link.store.all.clone_from(&self.rules.store.all);
+        self.archive.store.all.clone_from(&self.rules.store.all);
     }
 
     pub fn set_record(&mut self, bytes: &[u8; RECORD_BYTES]) {
         self.rules.record.lent_mut(RECORD_BYTES).copy_from_slice(bytes);
-        self.link.record.lent_mut(RECORD_BYTES).copy_from_slice(bytes);
+        self.archive.record.lent_mut(RECORD_BYTES).copy_from_slice(bytes);
     }
 
     pub fn record(&self) -> &[u8] {
-        self.link.record.lent(RECORD_BYTES)
+        self.archive.record.lent(RECORD_BYTES)
     }
 
     /// The state that the record stands for.
@@ -189,15 +228,15 @@ impl Pair {
         calls::read_record(self.record())
     }
 
-    /// The groups of the last `groups`, as (PGN, start, length).
+    /// One group of the last `groups`: PGN, start, length.
     pub fn group(&self, i: usize) -> (u32, usize, usize) {
-        let words = &self.link.groups.lent(GROUPS_WORDS)[3 * i..3 * i + 3];
+        let words = &self.archive.groups.lent(GROUPS_WORDS)[3 * i..3 * i + 3];
         (words[0], words[1] as usize, words[2] as usize)
     }
 
     /// The first bytes of the output of the last `pack` or `message`.
     pub fn out(&self, length: usize) -> &[u8] {
-        self.link.out.lent(length)
+        self.archive.out.lent(length)
     }
 
     /// A value for what a call is to overwrite, another one each time.
@@ -206,68 +245,63 @@ impl Pair {
         self.noise
     }
 
-    /// 01: a call that does not refuse with 23 leaves a record in bounds with the same opening values.
-    fn stays_in_bounds(&self, call: impl Fn() -> String, before: &[u8], number: u8) -> Verdict<()> {
-        let in_bounds = || self.state().is_some_and(|state| state.in_bounds());
-        let holds = number == 23 || (in_bounds() && self.record()[..5] == before[..5]);
-        expect(holds, || format!("{}: the next record is out of bounds", call()))
+    /// Makes a call on both sides: what both returned.
+    fn both<N>(&mut self, name: impl Fn() -> String, mut call: impl FnMut(&mut Side) -> N) -> Verdict<N>
+    where
+        N: Copy + PartialEq + Display,
+    {
+        let (by_rules, by_archive) = (call(&mut self.rules), call(&mut self.archive));
+        self.tally.calls += 1;
+        let told = || format!("{}: {by_rules} by the rules, {by_archive} by the archive", name());
+        expect(by_rules == by_archive, told)?;
+        Ok(by_archive)
     }
 
-    fn same_number(&mut self, call: impl Fn() -> String, by_rules: usize, by_link: usize) -> Verdict<()> {
-        self.tally.calls += 1;
-        expect(by_rules == by_link, || format!("{}: {by_rules} by the rules, {by_link} by the archive", call()))
+    /// 01: a call that does not refuse with 23 leaves a record in bounds with the same opening values.
+    fn stays_in_bounds(&self, name: impl Fn() -> String, before: &[u8], number: u8) -> Verdict<()> {
+        let in_bounds = || self.state().is_some_and(|state| state.in_bounds());
+        let holds = number == 23 || (in_bounds() && self.record()[..5] == before[..5]);
+        expect(holds, || format!("{}: the next record is out of bounds", name()))
+    }
+
+    fn count(&mut self, given: &Given) {
+        self.tally.codes[usize::from(given.code())] += 1;
+        self.tally.sent += u64::from(given.0[19]);
     }
 
     pub fn least_length(&mut self, need: usize) -> Verdict<usize> {
-        let by_rules = calls::least_length(need);
-        self.same_number(|| format!("least length for {need}"), by_rules, boundary::least_length(need))?;
-        Ok(by_rules)
+        self.both(|| format!("least length for {need}"), |side| (side.calls.least_length)(need))
     }
 
     pub fn open(&mut self, own: u8, limit: u32, reading: u32) -> Verdict<u8> {
         let size = self.sizes.record;
-        let call = || format!("open of {size} bytes with {own}, {limit}, {reading}");
-        let by_rules = calls::open(self.rules.record.lent_mut(size), own, limit, reading);
-        let by_link = boundary::open(self.link.record.lent_mut(size), own, limit, reading);
-        self.same_number(call, by_rules.into(), by_link.into())?;
-        same!(self, call, record);
-        self.tally.numbers[usize::from(by_link)] += 1;
-        Ok(by_link)
+        let name = || format!("open of {size} bytes with {own}, {limit}, {reading}");
+        let number = self.both(name, |side| (side.calls.open)(side.record.lent_mut(size), own, limit, reading))?;
+        same!(self, name, record);
+        self.tally.numbers[usize::from(number)] += 1;
+        Ok(number)
     }
 
     /// None where the answer's buffer is of another size.
     pub fn frame_raw(&mut self, id: u32, bytes: &[u8]) -> Verdict<Option<Given>> {
-        let sizes = self.sizes;
-        let noise = self.next_noise();
+        let (sizes, noise) = (self.sizes, self.next_noise());
         let record = self.record().to_vec();
-        let call = || format!("frame {id:08X} {bytes:02X?} of record {record:?}, {sizes:?}");
-        let mut numbers = [0; 2];
+        let name = || format!("frame {id:08X} {} on record {}, {sizes:?}", hex(bytes), hex(&record));
         let lent = bytes.to_vec();
-        for (side, take, number) in [
-            (&mut self.rules, calls::frame as fn(&mut [u8], u32, &[u8], &mut [u8], &mut [u8]) -> u8, 0),
-            (&mut self.link, boundary::frame, 1),
-        ] {
+        let number = self.both(name, |side| {
             side.answer.lent_mut(LARGEST.answer).fill(noise);
-            numbers[number] = take(
-                side.record.lent_mut(sizes.record),
-                id,
-                &lent,
-                side.store.lent_mut(sizes.store),
-                side.answer.lent_mut(sizes.answer),
-            );
-        }
-        self.same_number(call, numbers[0].into(), numbers[1].into())?;
-        same!(self, call, answer, record, store);
-        expect(lent == bytes, || format!("{}: wrote into the frame", call()))?;
-        self.stays_in_bounds(call, &record, numbers[1])?;
-        self.tally.numbers[usize::from(numbers[1])] += 1;
-        if sizes.answer != ANSWER_BYTES {
+            let record = side.record.lent_mut(sizes.record);
+            let store = side.store.lent_mut(sizes.store);
+            (side.calls.frame)(record, id, &lent, store, side.answer.lent_mut(sizes.answer))
+        })?;
+        same!(self, name, answer, record, store);
+        expect(lent == bytes, || format!("{}: wrote into the frame", name()))?;
+        self.stays_in_bounds(name, &record, number)?;
+        self.tally.numbers[usize::from(number)] += 1;
+        let Ok(given) = self.archive.answer.lent(sizes.answer).try_into().map(Given) else {
             return Ok(None);
-        }
-        let mut given = Given([0; ANSWER_BYTES]);
-        given.0.copy_from_slice(self.link.answer.lent(ANSWER_BYTES));
-        self.tally.codes[usize::from(given.code())] += 1;
-        self.tally.sent += u64::from(given.0[19]);
+        };
+        self.count(&given);
         Ok(Some(given))
     }
 
@@ -276,7 +310,7 @@ impl Pair {
         let given = self.frame_raw(id, bytes)?.ok_or_else(|| Difference("no answer was lent".into()))?;
         if given.is(Code::Groups) {
             let count = self.groups(bytes)?;
-            expect(count <= 16, || format!("frame {bytes:02X?} was taken, its groups were not"))?;
+            expect(count <= 16, || format!("frame {} was taken, its groups were not", hex(bytes)))?;
         }
         if given.is(Code::HandedOver) {
             let length = given.word(11) as usize;
@@ -288,41 +322,29 @@ impl Pair {
         Ok(given)
     }
 
-    /// The number, and the bytes of the answers.
+    /// The number, and the eight answers where they were lent whole.
     pub fn reading(&mut self, reading: u32) -> Verdict<(u8, Vec<Given>)> {
-        let sizes = self.sizes;
-        let noise = self.next_noise();
+        let (sizes, noise) = (self.sizes, self.next_noise());
         let record = self.record().to_vec();
-        let call = || format!("reading {reading} of record {record:?}, {sizes:?}");
-        let mut numbers = [0; 2];
-        for (side, take, number) in [
-            (&mut self.rules, calls::reading as fn(&mut [u8], u32, &[u8], &mut [u8]) -> u8, 0),
-            (&mut self.link, boundary::reading, 1),
-        ] {
+        let name = || format!("reading {reading} on record {}, {sizes:?}", hex(&record));
+        let number = self.both(name, |side| {
             side.answers.lent_mut(LARGEST.answers).fill(noise);
-            numbers[number] = take(
-                side.record.lent_mut(sizes.record),
-                reading,
-                side.store.lent(sizes.store),
-                side.answers.lent_mut(sizes.answers),
-            );
+            let record = side.record.lent_mut(sizes.record);
+            (side.calls.reading)(record, reading, side.store.lent(sizes.store), side.answers.lent_mut(sizes.answers))
+        })?;
+        same!(self, name, answers, record, store);
+        self.stays_in_bounds(name, &record, number)?;
+        self.tally.numbers[usize::from(number)] += 1;
+        if sizes.answers != ANSWERS_BYTES {
+            return Ok((number, vec![]));
         }
-        self.same_number(call, numbers[0].into(), numbers[1].into())?;
-        same!(self, call, answers, record, store);
-        self.stays_in_bounds(call, &record, numbers[1])?;
-        self.tally.numbers[usize::from(numbers[1])] += 1;
-        let mut given = Vec::new();
-        if sizes.answers == ANSWERS_BYTES {
-            for bytes in self.link.answers.lent(ANSWERS_BYTES).chunks_exact(ANSWER_BYTES) {
-                given.push(Given(bytes.try_into().expect("36 bytes each")));
-            }
-        }
+        let answers = self.archive.answers.lent(ANSWERS_BYTES).chunks_exact(ANSWER_BYTES);
+        let given: Vec<Given> = answers.map(|bytes| Given(bytes.try_into().expect("36 bytes each"))).collect();
         for ending in given.iter().filter(|ending| ending.code() != 0) {
             self.tally.numbers[usize::from(ending.number())] += 1;
-            self.tally.codes[usize::from(ending.code())] += 1;
-            self.tally.sent += u64::from(ending.0[19]);
+            self.count(ending);
         }
-        Ok((numbers[1], given))
+        Ok((number, given))
     }
 
     fn message_within(&mut self, answer: &[u8], room: usize) -> Verdict<usize> {
@@ -334,58 +356,40 @@ impl Pair {
     }
 
     pub fn message(&mut self, answer: &[u8]) -> Verdict<usize> {
-        let sizes = self.sizes;
-        let noise = self.next_noise();
-        let call = || format!("message of {answer:02X?}, {sizes:?}");
-        let mut numbers = [0; 2];
-        for (side, copy, number) in [
-            (&mut self.rules, calls::message as fn(&[u8], &[u8], &mut [u8]) -> usize, 0),
-            (&mut self.link, boundary::message, 1),
-        ] {
+        let (sizes, noise) = (self.sizes, self.next_noise());
+        let name = || format!("message of {}, {sizes:?}", hex(answer));
+        let length = self.both(name, |side| {
             side.out.lent_mut(LARGEST.out).fill(noise);
-            numbers[number] = copy(answer, side.store.lent(sizes.store), side.out.lent_mut(sizes.out));
-        }
-        self.same_number(call, numbers[0], numbers[1])?;
-        same!(self, call, out, store);
-        Ok(numbers[1])
+            (side.calls.message)(answer, side.store.lent(sizes.store), side.out.lent_mut(sizes.out))
+        })?;
+        same!(self, name, out, store);
+        Ok(length)
     }
 
     /// How many, or 256 times the number of the refusal.
     pub fn groups(&mut self, bytes: &[u8]) -> Verdict<usize> {
-        let sizes = self.sizes;
-        let noise = self.next_noise();
-        let call = || format!("groups of {bytes:02X?}, {sizes:?}");
-        let mut numbers = [0; 2];
-        for (side, read, number) in [
-            (&mut self.rules, calls::groups as fn(&[u8], &mut [u32]) -> usize, 0),
-            (&mut self.link, boundary::groups, 1),
-        ] {
+        let (sizes, noise) = (self.sizes, self.next_noise());
+        let name = || format!("groups of {}, {sizes:?}", hex(bytes));
+        let count = self.both(name, |side| {
             side.groups.lent_mut(LARGEST.groups).fill(u32::from(noise) * 0x0101_0101);
-            numbers[number] = read(bytes, side.groups.lent_mut(sizes.groups));
-        }
-        self.same_number(call, numbers[0], numbers[1])?;
-        same!(self, call, groups);
-        self.tally.numbers[numbers[1] >> 8] += 1;
-        self.tally.groups += numbers[1] as u64 & 0xFF;
-        Ok(numbers[1])
+            (side.calls.groups)(bytes, side.groups.lent_mut(sizes.groups))
+        })?;
+        same!(self, name, groups);
+        self.tally.numbers[count >> 8] += 1;
+        self.tally.groups += count as u64 & 0xFF;
+        Ok(count)
     }
 
     /// The frame's length, or 256 times the number of the refusal.
     pub fn pack(&mut self, pgns: &[u32], lengths: &[u8], data: &[u8]) -> Verdict<usize> {
-        let sizes = self.sizes;
-        let noise = self.next_noise();
-        let call = || format!("pack of {pgns:?} {lengths:?} {data:02X?}, {sizes:?}");
-        let mut numbers = [0; 2];
-        for (side, pack, number) in [
-            (&mut self.rules, calls::pack as fn(&[u32], &[u8], &[u8], &mut [u8]) -> usize, 0),
-            (&mut self.link, boundary::pack, 1),
-        ] {
+        let (sizes, noise) = (self.sizes, self.next_noise());
+        let name = || format!("pack of {pgns:?} {lengths:?} {}, {sizes:?}", hex(data));
+        let length = self.both(name, |side| {
             side.out.lent_mut(LARGEST.out).fill(noise);
-            numbers[number] = pack(pgns, lengths, data, side.out.lent_mut(sizes.out));
-        }
-        self.same_number(call, numbers[0], numbers[1])?;
-        same!(self, call, out);
-        self.tally.numbers[numbers[1] >> 8] += 1;
-        Ok(numbers[1])
+            (side.calls.pack)(pgns, lengths, data, side.out.lent_mut(sizes.out))
+        })?;
+        same!(self, name, out);
+        self.tally.numbers[length >> 8] += 1;
+        Ok(length)
     }
 }

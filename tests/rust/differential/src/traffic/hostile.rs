@@ -34,7 +34,12 @@ pub fn any_frame(random: &mut Random, state: &Receiver) -> Frame {
 
 /// Any identifier, also above 29 bits, and any bytes.
 fn noise(random: &mut Random) -> Frame {
-    let id = if random.once_in(2) { random.u32() } else { random.u32() >> 3 };
+    let edge = random.pick(&[0x1FFF_FFFF, 0x2000_0000, 0x2000_0001, u32::MAX, 0]);
+    let id = match random.below(8) {
+        0 => edge,
+        1..=4 => random.u32() >> 3,
+        _ => random.u32(),
+    };
     let length = if random.once_in(3) { random.below(80) } else { random.pick(&CAN_LENGTHS) };
     Frame { id, bytes: random.bytes(length) }
 }
