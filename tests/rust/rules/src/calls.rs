@@ -232,43 +232,47 @@ pub enum Code {
 pub fn answer_bytes(answer: &Answer) -> [u8; ANSWER_BYTES] {
     let mut bytes = [0; ANSWER_BYTES];
     bytes[0] = answer.number();
-    match *answer {
-        Answer::Groups => bytes[1] = Code::Groups as u8,
-        Answer::Opened(key) => put_key(&mut bytes, Code::Opened, key),
-        Answer::Taken { key, segment } => {
-            put_key(&mut bytes, Code::Taken, key);
-            put_word(&mut bytes[15..], segment);
-        }
-        Answer::Grant { key, pgn, next, count } => {
-            put_key(&mut bytes, Code::Grant, key);
-            put_kind_and_pgn(&mut bytes, Kind::Rts, pgn);
-            bytes[6] = count;
-            put_word(&mut bytes[15..], next);
-        }
-        Answer::HandedOver { key, kind, slot, pgn, total_bytes, segments } => {
-            put_key(&mut bytes, Code::HandedOver, key);
-            put_kind_and_pgn(&mut bytes, kind, pgn);
-            bytes[6] = slot as u8;
-            put_word(&mut bytes[11..], total_bytes);
-            put_word(&mut bytes[15..], segments);
-        }
-        Answer::Aborted(key) => put_key(&mut bytes, Code::Aborted, key),
-        Answer::Ended(Ending { key, kind, pgn, .. }) => {
-            put_key(&mut bytes, Code::Ended, key);
-            put_kind_and_pgn(&mut bytes, kind, pgn);
-        }
-        Answer::RefusedRts { key, pgn, .. } => {
-            put_key(&mut bytes, Code::RefusedRts, key);
-            put_kind_and_pgn(&mut bytes, Kind::Rts, pgn);
-        }
-        Answer::Refused(_) => bytes[1] = Code::Refused as u8,
-    }
+    put_fields(&mut bytes, answer);
     if let Some(Sent { id, bytes: sent }) = sent::of_answer(answer) {
         bytes[19] = 1;
         put_word(&mut bytes[20..], id);
         bytes[24..].copy_from_slice(&sent);
     }
     bytes
+}
+
+fn put_fields(bytes: &mut [u8], answer: &Answer) {
+    match *answer {
+        Answer::Groups => bytes[1] = Code::Groups as u8,
+        Answer::Opened(key) => put_key(bytes, Code::Opened, key),
+        Answer::Taken { key, segment } => {
+            put_key(bytes, Code::Taken, key);
+            put_word(&mut bytes[15..], segment);
+        }
+        Answer::Grant { key, pgn, next, count } => {
+            put_key(bytes, Code::Grant, key);
+            put_kind_and_pgn(bytes, Kind::Rts, pgn);
+            bytes[6] = count;
+            put_word(&mut bytes[15..], next);
+        }
+        Answer::HandedOver { key, kind, slot, pgn, total_bytes, segments } => {
+            put_key(bytes, Code::HandedOver, key);
+            put_kind_and_pgn(bytes, kind, pgn);
+            bytes[6] = slot as u8;
+            put_word(&mut bytes[11..], total_bytes);
+            put_word(&mut bytes[15..], segments);
+        }
+        Answer::Aborted(key) => put_key(bytes, Code::Aborted, key),
+        Answer::Ended(Ending { key, kind, pgn, .. }) => {
+            put_key(bytes, Code::Ended, key);
+            put_kind_and_pgn(bytes, kind, pgn);
+        }
+        Answer::RefusedRts { key, pgn, .. } => {
+            put_key(bytes, Code::RefusedRts, key);
+            put_kind_and_pgn(bytes, Kind::Rts, pgn);
+        }
+        Answer::Refused(_) => bytes[1] = Code::Refused as u8,
+    }
 }
 
 fn put_key(bytes: &mut [u8], code: Code, key: Key) {
