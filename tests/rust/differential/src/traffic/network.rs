@@ -11,7 +11,8 @@ pub fn valid(pair: &mut Pair, random: &mut Random, calls: u64) -> Verdict<()> {
         let own = random.below(254) as u8;
         let mut clock = random.u32();
         pair.open(own, random.between(40_000, 60_000) as u32, clock)?;
-        let lines: Vec<Line> = (0..4).map(|i| line_of(own, i)).collect();
+        let first = random.below(16);
+        let lines: Vec<Line> = (0..4).map(|i| line_of(own, first, i)).collect();
         let mut transfers: Vec<Transfer> = lines.iter().map(|&line| Transfer::new(random, line)).collect();
         for _ in 0..500 {
             let i = random.below(transfers.len());
@@ -34,12 +35,13 @@ pub fn valid(pair: &mut Pair, random: &mut Random, calls: u64) -> Verdict<()> {
     Ok(())
 }
 
-/// Lines 0 and 1, 2 and 3 and so on have one sender and session: one to the own address, the other to all.
-fn line_of(own: u8, i: usize) -> Line {
+/// Lines 0 and 1, 2 and 3 and so on have one sender and session: one to the own address, the other to all. Three senders have the
+/// session `first`, and the same three have others.
+fn line_of(own: u8, first: usize, i: usize) -> Line {
     let pair = i / 2;
     // Adding 1 to 253 to an address, modulo 254, never gives it again.
     let sa = (usize::from(own) + 1 + pair % 3 * 84) % 254;
-    Line { sa: sa as u8, da: [own, 255][i % 2], session: (pair / 3 * 7) as u8 }
+    Line { sa: sa as u8, da: [own, 255][i % 2], session: ((first + pair / 3 * 7) % 16) as u8 }
 }
 
 struct Network {
@@ -83,7 +85,9 @@ impl Network {
         let own = random.below(254) as u8;
         let mut clock = random.u32();
         pair.open(own, self.limit, clock)?;
-        let mut transfers: Vec<Transfer> = (0..self.lines).map(|i| Transfer::new(random, line_of(own, i))).collect();
+        let first = random.below(16);
+        let mut transfers: Vec<Transfer> =
+            (0..self.lines).map(|i| Transfer::new(random, line_of(own, first, i))).collect();
         let mut held_back: Vec<Frame> = Vec::new();
         for _ in 0..400 {
             let i = random.below(transfers.len());
