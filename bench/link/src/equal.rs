@@ -9,7 +9,7 @@ fn put(out: &mut [u8], at: usize, value: u32) {
 }
 
 fn put_key(out: &mut [u8], at: usize, key: Key) {
-    out[at..at + 3].copy_from_slice(&[key.sa, key.da, key.number]);
+    out[at..at + 3].copy_from_slice(&[key.sa(), key.da(), key.number()]);
 }
 
 fn kind(is_bam: bool) -> u8 {

@@ -29,20 +29,20 @@ pub fn low_byte_is_wrong(pgn: u32) -> bool {
 /// The group at the start of `rest` and what is behind it; none at the end or at padding.
 #[inline(always)]
 fn split_group(rest: &[u8]) -> Result<Option<(Group<'_>, &[u8])>, Refusal> {
-    match rest.first() {
-        None => return Ok(None),
-        Some(first) if first >> 5 == 0 => return Ok(None),
-        Some(_) => {}
-    }
     let Some((head, behind)) = rest.split_first_chunk::<4>() else {
-        return Err(4);
+        return match rest.first() {
+            Some(first) if first >> 5 != 0 => Err(4),
+            _ => Ok(None),
+        };
     };
     let head = u32::from_be_bytes(*head);
-    if head >> 29 != 2 {
-        return Err(6);
-    }
-    if (head >> 26) & 7 != 0 {
-        return Err(7);
+    // TOS 2 and TF 0 in one test.
+    if head >> 26 != 2 << 3 {
+        return match head >> 29 {
+            0 => Ok(None),
+            2 => Err(7),
+            _ => Err(6),
+        };
     }
     let pgn = (head >> 8) & 0x3_ffff;
     if low_byte_is_wrong(pgn) {

@@ -7,11 +7,26 @@ pub const SEGMENT_BYTES: u32 = 60;
 
 type Store = [u8; SLOTS * SLOT_BYTES];
 
+/// SA, DA and session number in one word, so that two keys are compared at once.
 #[derive(Clone, Copy, PartialEq, Eq)]
-pub struct Key {
-    pub sa: u8,
-    pub da: u8,
-    pub number: u8,
+pub struct Key(u32);
+
+impl Key {
+    fn new(sa: u8, da: u8, number: u8) -> Self {
+        Key(u32::from_le_bytes([sa, da, number, 0]))
+    }
+
+    pub fn sa(self) -> u8 {
+        self.0 as u8
+    }
+
+    pub fn da(self) -> u8 {
+        (self.0 >> 8) as u8
+    }
+
+    pub fn number(self) -> u8 {
+        (self.0 >> 16) as u8
+    }
 }
 
 #[derive(Clone, Copy)]
@@ -93,10 +108,10 @@ fn wire_reason(refusal: Refusal) -> u8 {
 
 fn control_frame(own: u8, key: Key, control: u8, pgn: u32) -> Sent {
     let mut bytes = [0xff; 12];
-    bytes[0] = key.number << 4 | control;
+    bytes[0] = key.number() << 4 | control;
     put24(&mut bytes, 9, pgn);
     Sent {
-        id: 7 << 26 | 77 << 16 | u32::from(key.sa) << 8 | u32::from(own),
+        id: 7 << 26 | 77 << 16 | u32::from(key.sa()) << 8 | u32::from(own),
         bytes,
     }
 }
@@ -170,12 +185,12 @@ impl<const CHECKED: bool> Receiver<CHECKED> {
         let granted = s.next <= s.granted && s.granted <= s.segments
             || s.next > s.segments && s.granted == s.segments;
         s.total.wrapping_sub(1) < SLOT_BYTES as u32
-            && s.segments == s.total.div_ceil(SEGMENT_BYTES)
+            && s.segments == (s.total + 59) / SEGMENT_BYTES
             && is_pgn(s.pgn)
-            && s.key.sa < 254
-            && s.key.sa != self.own
-            && s.key.da == da
-            && s.key.number < 16
+            && s.key.sa() < 254
+            && s.key.sa() != self.own
+            && s.key.da() == da
+            && s.key.number() < 16
             && s.next.wrapping_sub(1) <= s.segments
             && (s.is_bam || s.max != 0 && granted)
     }
@@ -185,11 +200,14 @@ impl<const CHECKED: bool> Receiver<CHECKED> {
         if self.own > 253 || self.limit.wrapping_sub(1) >= 60_000 {
             return false;
         }
-        for (i, slot) in self.slots.iter().enumerate() {
-            let Some(s) = slot else { continue };
-            if !self.session_in_bounds(s) || self.slots[..i].iter().flatten().any(|other| other.key == s.key) {
+        let mut keys = [Key(0); SLOTS];
+        let mut open = 0;
+        for s in self.slots.iter().flatten() {
+            if !self.session_in_bounds(s) || keys[..open].contains(&s.key) {
                 return false;
             }
+            keys[open] = s.key;
+            open += 1;
         }
         true
     }
@@ -257,7 +275,7 @@ impl<const CHECKED: bool> Receiver<CHECKED> {
 
     fn control<'a>(&mut self, sa: u8, da: u8, bytes: &[u8; 12], store: &'a Store) -> Answer<'a> {
         let number = bytes[0] >> 4;
-        let key = Key { sa, da, number };
+        let key = Key::new(sa, da, number);
         match bytes[0] & 15 {
             0 => self.announcement(key, false, bytes),
             4 => self.announcement(key, true, bytes),
@@ -268,7 +286,7 @@ impl<const CHECKED: bool> Receiver<CHECKED> {
     }
 
     fn announcement<'a>(&mut self, key: Key, is_bam: bool, bytes: &[u8; 12]) -> Answer<'a> {
-        if is_bam != (key.da == 255) {
+        if is_bam != (key.da() == 255) {
             return Answer::Refused(11);
         }
         let mut s = Session {
@@ -326,7 +344,7 @@ impl<const CHECKED: bool> Receiver<CHECKED> {
             return Answer::Refused(17);
         }
         let number = head[0] >> 4;
-        let Some(slot) = self.find(Key { sa, da, number }) else {
+        let Some(slot) = self.find(Key::new(sa, da, number)) else {
             return Answer::Refused(16);
         };
         let segment = u32::from_le_bytes(head) >> 8;
