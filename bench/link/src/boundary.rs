@@ -1,6 +1,6 @@
 //! Our side: the calls of include/dwaebinam.h, as they are.
 
-use crate::plain::{Refusal, SLOTS, SLOT_BYTES};
+use crate::plain::{SLOTS, SLOT_BYTES};
 
 pub const RECORD_BYTES: usize = 249;
 pub const STORE_BYTES: usize = SLOTS * SLOT_BYTES;
@@ -69,15 +69,6 @@ impl Ours {
                 ANSWER_BYTES,
             )
         }
-    }
-}
-
-#[cfg(any(feature = "groups", feature = "pack"))]
-fn result(answer: usize) -> Result<usize, Refusal> {
-    if answer < 256 {
-        Ok(answer)
-    } else {
-        Err((answer / 256) as Refusal)
     }
 }
 

@@ -136,6 +136,7 @@ pub fn compare_groups(name: &str, frames: &[Frame]) {
         let mut expected = [0xdead; GROUPS_WORDS];
         let mut groups = [Group::default(); MOST_GROUPS];
         let result = plain::unpack(frame.bytes(), &mut groups);
+        assert_eq!(result, plain::unpack_as_read(frame.bytes(), &mut [Group::default(); MOST_GROUPS]));
         let count = result.map_or_else(|refusal| 256 * usize::from(refusal), |n| n);
         for (words, group) in expected.chunks_mut(3).zip(&groups[..result.unwrap_or(0)]) {
             let start = group.data.as_ptr() as usize - frame.bytes().as_ptr() as usize;

@@ -28,9 +28,20 @@ struct Case {
     /// Calls of one operation.
     calls: usize,
     ours: Side,
+    /// Plain Rust that does all that is promised: checks the whole record, judges the whole frame before it writes.
     checked: Side,
-    /// A receiver that trusts its record; none where there is no record.
+    /// Plain Rust that trusts its record, or writes groups as it reads them; none for packing.
     unchecked: Option<Side>,
+}
+
+/// Uses a result as a caller would. A black box over the whole of it would read back in one piece what was written in two, and wait.
+#[cfg(any(feature = "groups", feature = "pack"))]
+#[inline(always)]
+fn consume(result: Result<usize, plain::Refusal>) {
+    match result {
+        Ok(count) => black_box(count),
+        Err(refusal) => black_box(usize::from(refusal)),
+    };
 }
 
 fn ours_frames(open: &[Sender], frames: &[Frame]) -> Side {
@@ -103,13 +114,15 @@ mod with_groups {
         })
     }
 
-    fn plain_groups(frames: &[Frame]) -> Side {
+    type Unpack = for<'a> fn(&'a [u8], &mut [Group<'a>; MOST_GROUPS]) -> Result<usize, plain::Refusal>;
+
+    fn plain_groups(frames: &[Frame], unpack: Unpack) -> Side {
         let frames = frames.to_vec();
         Box::new(move |rounds| {
             let mut groups = [Group::default(); MOST_GROUPS];
             for _ in 0..rounds {
                 for frame in black_box(&frames[..]) {
-                    black_box(plain::unpack(frame.bytes(), &mut groups)).ok();
+                    consume(unpack(frame.bytes(), &mut groups));
                     black_box(&groups);
                 }
             }
@@ -122,8 +135,8 @@ mod with_groups {
             name,
             calls: frames.len(),
             ours: ours_groups(frames),
-            checked: plain_groups(frames),
-            unchecked: None,
+            checked: plain_groups(frames, plain::unpack),
+            unchecked: Some(plain_groups(frames, plain::unpack_as_read)),
         }
     }
 
@@ -156,7 +169,7 @@ mod with_groups {
                 for frame in black_box(&frames[..]) {
                     if let Answer::Groups(groups) = receiver.frame(frame.id, frame.bytes(), &mut store) {
                         for group in groups {
-                            black_box(group);
+                            black_box(&group);
                         }
                     }
                 }
@@ -195,7 +208,7 @@ fn pack_case(name: &'static str, groups: usize) -> Case {
             let mut out = [0; 64];
             for _ in 0..rounds {
                 for r in black_box(&plain[..]) {
-                    black_box(plain::pack(&r.pgns, &r.lengths, &r.data, &mut out)).ok();
+                    consume(plain::pack(&r.pgns, &r.lengths, &r.data, &mut out));
                     black_box(&out);
                 }
             }

@@ -54,9 +54,23 @@ fn split_group(rest: &[u8]) -> Result<Option<(Group<'_>, &[u8])>, Refusal> {
     }
 }
 
-/// Judges a frame whole and says how many groups it has; they stand in `groups`, whose content means nothing on a refusal.
+/// Judges a frame whole, then writes its groups and says how many there are. Nothing is written on a refusal.
 #[inline(never)]
 pub fn unpack<'a>(frame: &'a [u8], groups: &mut [Group<'a>; MOST_GROUPS]) -> Result<usize, Refusal> {
+    if !is_can_fd_length(frame.len()) {
+        return Err(1);
+    }
+    let mut count = 0;
+    for group in Groups::judged(frame)? {
+        groups[count] = group;
+        count += 1;
+    }
+    Ok(count)
+}
+
+/// The same in one pass: on a refusal `groups` holds what was read up to the fault.
+#[inline(never)]
+pub fn unpack_as_read<'a>(frame: &'a [u8], groups: &mut [Group<'a>; MOST_GROUPS]) -> Result<usize, Refusal> {
     if !is_can_fd_length(frame.len()) {
         return Err(1);
     }
