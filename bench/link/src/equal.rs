@@ -35,7 +35,13 @@ fn answer_bytes(answer: &Answer) -> [u8; ANSWER_BYTES] {
             put_key(&mut out, 2, *key);
             put(&mut out, 15, *segment);
         }
-        Answer::Grant { key, pgn, next, count, sent } => {
+        Answer::Grant {
+            key,
+            pgn,
+            next,
+            count,
+            sent,
+        } => {
             out[1] = 4;
             put_key(&mut out, 2, *key);
             out[5] = 1;
@@ -44,7 +50,15 @@ fn answer_bytes(answer: &Answer) -> [u8; ANSWER_BYTES] {
             put(&mut out, 15, *next);
             put_sent(&mut out, sent);
         }
-        Answer::HandedOver { key, is_bam, slot, pgn, segments, message, sent } => {
+        Answer::HandedOver {
+            key,
+            is_bam,
+            slot,
+            pgn,
+            segments,
+            message,
+            sent,
+        } => {
             out[1] = 5;
             put_key(&mut out, 2, *key);
             out[5] = kind(*is_bam);
@@ -58,7 +72,13 @@ fn answer_bytes(answer: &Answer) -> [u8; ANSWER_BYTES] {
             out[1] = 6;
             put_key(&mut out, 2, *key);
         }
-        Answer::Ended { refusal, key, is_bam, pgn, sent } => {
+        Answer::Ended {
+            refusal,
+            key,
+            is_bam,
+            pgn,
+            sent,
+        } => {
             out[0] = *refusal;
             out[1] = 7;
             put_key(&mut out, 2, *key);
@@ -107,8 +127,10 @@ fn record_over<const CHECKED: bool>(receiver: &Receiver<CHECKED>, ours: &[u8; RE
     out
 }
 
-/// Runs both sides over the frames and compares after each: number, answer, record, and at the end the store.
-pub fn compare<const CHECKED: bool>(name: &str, frames: &[Frame]) {
+/// Runs both sides over the frames and compares after each: number, answer, record, and now and then the store. How often each number
+/// was the answer.
+pub fn compare<const CHECKED: bool>(name: &str, frames: &[Frame]) -> [usize; 256] {
+    let mut seen = [0; 256];
     let mut ours = Ours::open(OWN, LIMIT, 7);
     let mut receiver = Receiver::<CHECKED>::open(OWN, LIMIT, 7);
     let mut store = vec![0; STORE_BYTES];
@@ -119,6 +141,7 @@ pub fn compare<const CHECKED: bool>(name: &str, frames: &[Frame]) {
             assert!(&ours.store[4096 * usize::from(*slot)..][..message.len()] == *message);
         }
         let expected = answer_bytes(&answer);
+        seen[usize::from(number)] += 1;
         assert_eq!(number, expected[0], "number, frame {i} of {name}");
         assert_eq!(ours.answer, expected, "answer, frame {i} of {name}");
         assert_eq!(ours.record, record_over(&receiver, &ours.record), "record, frame {i} of {name}");
@@ -126,6 +149,7 @@ pub fn compare<const CHECKED: bool>(name: &str, frames: &[Frame]) {
             assert!(ours.store == store, "store, frame {i} of {name}");
         }
     }
+    seen
 }
 
 #[cfg(feature = "groups")]

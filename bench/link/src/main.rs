@@ -5,6 +5,9 @@
 //!     link cases                     the names of the cases
 //!     link run CASE SIDE ROUNDS      one side of one case, for counting its instructions
 
+// Until the archive exports all.
+#![cfg_attr(not(all(feature = "groups", feature = "pack")), allow(dead_code))]
+
 mod boundary;
 mod equal;
 mod frames;
@@ -252,7 +255,9 @@ fn equal() {
     ];
     for (name, frames) in &lists {
         equal::compare::<true>(name, frames);
-        equal::compare::<false>(name, frames);
+        let seen = equal::compare::<false>(name, frames);
+        let seen: Vec<String> = (0..256).filter(|&n| seen[n] > 0).map(|n| format!("{n}: {}", seen[n])).collect();
+        eprintln!("{name}: {} frames equal; numbers {}", frames.len(), seen.join(", "));
         #[cfg(feature = "groups")]
         equal::compare_groups(name, frames);
     }
@@ -278,7 +283,13 @@ fn median(times: &mut [u128]) -> u128 {
 }
 
 fn time(case: Case) {
-    let Case { name, calls, ours, checked, unchecked } = case;
+    let Case {
+        name,
+        calls,
+        ours,
+        checked,
+        unchecked,
+    } = case;
     let mut sides: Vec<Side> = [Some(ours), Some(checked), unchecked].into_iter().flatten().collect();
     let mut repeat = 1;
     while sides.iter_mut().any(|side| sample(side, repeat) < SAMPLE_NS) {
@@ -302,7 +313,9 @@ fn main() {
     let args: Vec<String> = std::env::args().skip(1).collect();
     match args.iter().map(String::as_str).collect::<Vec<_>>()[..] {
         ["equal"] => equal(),
-        ["cases"] => cases().iter().for_each(|c| println!("{}\t{}\t{}", c.name, c.calls, 2 + usize::from(c.unchecked.is_some()))),
+        ["cases"] => cases()
+            .iter()
+            .for_each(|c| println!("{}\t{}\t{}", c.name, c.calls, 2 + usize::from(c.unchecked.is_some()))),
         ["time"] => {
             equal();
             cases().into_iter().for_each(time);

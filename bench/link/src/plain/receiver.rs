@@ -182,8 +182,7 @@ impl<const CHECKED: bool> Receiver<CHECKED> {
     #[inline(always)]
     fn session_in_bounds(&self, s: &Session) -> bool {
         let da = if s.is_bam { 255 } else { self.own };
-        let granted = s.next <= s.granted && s.granted <= s.segments
-            || s.next > s.segments && s.granted == s.segments;
+        let granted = s.next <= s.granted && s.granted <= s.segments || s.next > s.segments && s.granted == s.segments;
         s.total.wrapping_sub(1) < SLOT_BYTES as u32
             && s.segments == (s.total + 59) / SEGMENT_BYTES
             && is_pgn(s.pgn)
@@ -213,9 +212,7 @@ impl<const CHECKED: bool> Receiver<CHECKED> {
     }
 
     fn find(&self, key: Key) -> Option<usize> {
-        self.slots
-            .iter()
-            .position(|slot| matches!(slot, Some(s) if s.key == key))
+        self.slots.iter().position(|slot| matches!(slot, Some(s) if s.key == key))
     }
 
     /// Ends the session in a slot with a refusal: an RTS session is told.
@@ -249,11 +246,7 @@ impl<const CHECKED: bool> Receiver<CHECKED> {
         let pf = (id >> 16) as u8;
         let da = (id >> 8) as u8;
         let sa = id as u8;
-        let is_ours = pages == 0
-            && matches!(pf, 37 | 77 | 78)
-            && (da == self.own || da == 255)
-            && sa < 254
-            && sa != self.own;
+        let is_ours = pages == 0 && matches!(pf, 37 | 77 | 78) && (da == self.own || da == 255) && sa < 254 && sa != self.own;
         if !is_ours {
             return Answer::Refused(3);
         }
@@ -309,11 +302,7 @@ impl<const CHECKED: bool> Receiver<CHECKED> {
                 sent: abort(self.own, key, s.pgn, refusal),
             },
             Ok(slot) => {
-                let answer = if is_bam {
-                    Answer::Opened(key)
-                } else {
-                    grant(self.own, &mut s)
-                };
+                let answer = if is_bam { Answer::Opened(key) } else { grant(self.own, &mut s) };
                 self.slots[slot] = Some(s);
                 answer
             }
