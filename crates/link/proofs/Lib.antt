@@ -1,4 +1,4 @@
 pub mod Exports
-pub mod Packs
+pub mod Counts
 pub mod Messages
 pub mod Readings

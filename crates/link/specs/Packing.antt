@@ -12,8 +12,5 @@ packAnswer (Frame n) = n
 packAnswer (Refused x) = 256 * numberOf x
 
 -- the answer as a number, and the output as the packer leaves it
-abbrev pub answered : Packed × List ℕ → ℕ × List ℕ
-answered p = (packAnswer (p .0), p .1)
-
 abbrev pub packedIn : List ℕ → List ℕ → List ℕ → List ℕ → ℕ × List ℕ
-packedIn pgns lengths d out = answered (packed pgns lengths d out)
+packedIn pgns lengths d out = (packAnswer (packed pgns lengths d out .0), packed pgns lengths d out .1)

@@ -8,8 +8,8 @@ use frame::refusal::Refusal;
 use packing::Packed;
 use packing::pack;
 
-// A refusal in place of a length, above all lengths.
-fn refused(x: Refusal) -> usize
+// A refusal in place of a length or a count, above all of them.
+pub fn refused(x: Refusal) -> usize
     ensures { λ r. ⌜ r ≡ 256 * numberOf x ⌝ }
 {
     256 * (refusal::number(x) as usize)

@@ -1,6 +1,6 @@
 use mathlib.Core.Path.{sym, ap, _∙_}
 use Rattle.link.specs.Packing.{packAnswer}
-use Rattle.link.proofs.Packs.{pack-put}
+use Rattle.link.proofs.Counts.{counted}
 use borrow.Author.Needs.{needs}
 use Rattle.link.proofs.pack.dwb_pack.Statement.{statement}
 use Rattle.link.proofs.pack.dwb_pack.Tie as tie
@@ -27,7 +27,7 @@ same-length c = search needs
 
 -- src/pack.rt:19:1
 returns : tie.Need-returns
-returns c = pack-put _ _ _ _ (sym (ap packAnswer (c .before .n .given .1))) (c .before .before .before .before .before .pack .ensures)
+returns c = counted packAnswer _ _ _ _ (sym (ap packAnswer (c .before .n .given .1))) (c .before .before .before .before .before .pack .ensures)
 
 -- src/pack.rt:19:1
 same-length-2 : tie.Need-same-length-2
@@ -35,7 +35,7 @@ same-length-2 c = search needs
 
 -- src/pack.rt:19:1
 returns-2 : tie.Need-returns-2
-returns-2 c = pack-put _ _ _ _ (c .refused .ensures ∙ sym (ap packAnswer (c .before .before .x .given .1))) (c .before .before .before .before .before .before .pack .ensures)
+returns-2 c = counted packAnswer _ _ _ _ (c .refused .ensures ∙ sym (ap packAnswer (c .before .before .x .given .1))) (c .before .before .before .before .before .before .pack .ensures)
 
 pub dwb-pack-spec : {M : Type 1} → statement M
 dwb-pack-spec =
