@@ -1,2 +1,4 @@
 pub mod Steps
+pub mod Announces
+pub mod Ends
 pub mod Frames

@@ -57,7 +57,7 @@ fn take(buffer: &mut [u8], i: usize, s: Session, n: SegmentNumber) -> Answer
 }
 
 // A refusal that ends the session s of slot i.
-fn end_session(buffer: &mut [u8], i: usize, s: Session, n: Refusal) -> Answer
+pub fn end_session(buffer: &mut [u8], i: usize, s: Session, n: Refusal) -> Answer
     requires { ⌜ (i < 8) × (length (now buffer) ≡ 249) × Holds (now buffer) × (getD (slotsAt (now buffer)) i freeSlot .state ≡ Open s) ⌝ }
     ensures { λ x. ⌜ (x, now (buffer .exit)) ≡ steppedIn (now (buffer .entry)) (ended (recordAt (now (buffer .entry))) i s n) ⌝ }
 {
