@@ -19,7 +19,8 @@ use Rattle.receiver.specs.Calls.{isReady, groupsStep, onVerdict, frameAll}
 use Rattle.record_bytes.specs.Layout.{isRecord, recordAt}
 use Rattle.record_bytes.specs.Kept.{Bytes, keep}
 use Rattle.lent_record.specs.Ready.{readyIn, Ready, ready-of}
-use Rattle.in_place.specs.Seen.{Seen, groupsAnswer, seenIn, frameIn, Holds}
+use Rattle.in_place_control.specs.Step.{Holds}
+use Rattle.in_place.specs.Seen.{Seen, groupsAnswer, seenIn, frameIn}
 
 module _ (b : List ℕ) (id : ℕ) (d m : List ℕ) (t : Bool) (et : t ≡ readyIn b (length m)) where
   pub not-ready : not t ≡ true → _≡_ {A = Seen} (Refused OutOfBounds, (b, m)) (frameIn b id d m)

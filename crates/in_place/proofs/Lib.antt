@@ -1,4 +1,2 @@
 pub mod Steps
-pub mod Announces
-pub mod Ends
 pub mod Frames

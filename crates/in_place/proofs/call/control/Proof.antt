@@ -6,16 +6,16 @@ use Rattle.transport.specs.Control.{keyOf}
 use Rattle.receiver.specs.Calls.{announceStep, statusStep, abortStep, onControl, controlStep}
 use Rattle.receiver.proofs.Cases.{by-case}
 use Rattle.record_bytes.specs.Layout.{recordAt}
-use Rattle.in_place.specs.Seen.{steppedIn}
-use Rattle.in_place.proofs.Announces.{unchanged}
+use Rattle.in_place_control.specs.Step.{steppedIn}
+use Rattle.in_place_control.proofs.Writes.{unchanged}
 use borrow.Author.Needs.{needs}
 use Rattle.in_place.proofs.call.control.Statement.{statement}
 use Rattle.in_place.proofs.call.control.Tie as tie
 use Rattle.in_place.proofs.call.control.Reads as reads
 use Rattle.in_place.proofs.call.control.Lts as lts
-use Rattle.in_place.proofs.announce.announce.Reads as announce-reads
-use Rattle.in_place.proofs.end.abort.Reads as abort-reads
-use Rattle.in_place.proofs.end.status.Reads as status-reads
+use Rattle.in_place_control.proofs.announce.announce.Reads as announce-reads
+use Rattle.in_place_control.proofs.end.abort.Reads as abort-reads
+use Rattle.in_place_control.proofs.end.status.Reads as status-reads
 use Rattle.transport.proofs.control.key_of.Reads as key-of-reads
 use Rattle.transport.proofs.control.read_control.Reads as read-control-reads
 

@@ -1,13 +1,13 @@
 use denote.Ref.{now}
 use Rattle.receiver.proofs.Cases.{within}
-use Rattle.in_place.proofs.Announces.{key-open, slot-free, slots-full}
+use Rattle.in_place_control.proofs.Announces.{key-open, slot-free, slots-full}
 use borrow.Author.Needs.{needs}
-use Rattle.in_place.proofs.announce.take_slot.Statement.{statement}
-use Rattle.in_place.proofs.announce.take_slot.Tie as tie
-use Rattle.in_place.proofs.announce.take_slot.Reads as reads
-use Rattle.in_place.proofs.announce.take_slot.Lts as lts
-use Rattle.in_place.proofs.announce.open_in.Reads as open-in-reads
-use Rattle.in_place.proofs.announce.reject.Reads as reject-reads
+use Rattle.in_place_control.proofs.announce.take_slot.Statement.{statement}
+use Rattle.in_place_control.proofs.announce.take_slot.Tie as tie
+use Rattle.in_place_control.proofs.announce.take_slot.Reads as reads
+use Rattle.in_place_control.proofs.announce.take_slot.Lts as lts
+use Rattle.in_place_control.proofs.announce.open_in.Reads as open-in-reads
+use Rattle.in_place_control.proofs.announce.reject.Reads as reject-reads
 use Rattle.lent_record.proofs.search.find_free.Reads as find-free-reads
 use Rattle.lent_record.proofs.search.find_key.Reads as find-key-reads
 

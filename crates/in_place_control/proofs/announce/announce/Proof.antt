@@ -1,12 +1,12 @@
 use denote.Ref.{now}
-use Rattle.in_place.proofs.Announces.{rejecting, goes-wrong, by-form}
+use Rattle.in_place_control.proofs.Announces.{rejecting, goes-wrong, by-form}
 use borrow.Author.Needs.{needs}
-use Rattle.in_place.proofs.announce.announce.Statement.{statement}
-use Rattle.in_place.proofs.announce.announce.Tie as tie
-use Rattle.in_place.proofs.announce.announce.Reads as reads
-use Rattle.in_place.proofs.announce.announce.Lts as lts
-use Rattle.in_place.proofs.announce.reject.Reads as reject-reads
-use Rattle.in_place.proofs.announce.take_slot.Reads as take-slot-reads
+use Rattle.in_place_control.proofs.announce.announce.Statement.{statement}
+use Rattle.in_place_control.proofs.announce.announce.Tie as tie
+use Rattle.in_place_control.proofs.announce.announce.Reads as reads
+use Rattle.in_place_control.proofs.announce.announce.Lts as lts
+use Rattle.in_place_control.proofs.announce.reject.Reads as reject-reads
+use Rattle.in_place_control.proofs.announce.take_slot.Reads as take-slot-reads
 use Rattle.session.proofs.announcement.is_misdirected.Reads as is-misdirected-reads
 use Rattle.session.proofs.announcement.judge_form.Reads as judge-form-reads
 

@@ -1,8 +1,8 @@
 use borrow.Author.Needs.{needs}
-use Rattle.in_place.proofs.announce.reject.Statement.{statement}
-use Rattle.in_place.proofs.announce.reject.Tie as tie
-use Rattle.in_place.proofs.announce.reject.Reads as reads
-use Rattle.in_place.proofs.announce.reject.Lts as lts
+use Rattle.in_place_control.proofs.announce.reject.Statement.{statement}
+use Rattle.in_place_control.proofs.announce.reject.Tie as tie
+use Rattle.in_place_control.proofs.announce.reject.Reads as reads
+use Rattle.in_place_control.proofs.announce.reject.Lts as lts
 
 -- src/announce.rt:33:41
 enum-told : tie.Need-enum-told

@@ -20,8 +20,8 @@ use Rattle.receiver.specs.declared.answer.Stepped.{Stepped}
 use Rattle.receiver.specs.Calls.{refused, onKey}
 use Rattle.receiver.proofs.Cases.{by-case}
 use Rattle.record_bytes.specs.Layout.{slotsAt, recordAt}
-use Rattle.in_place.specs.Seen.{steppedIn, Holds}
-use Rattle.in_place.proofs.Announces.{unchanged}
+use Rattle.in_place_control.specs.Step.{steppedIn, Holds}
+use Rattle.in_place_control.proofs.Writes.{unchanged}
 
 -- `t` is the code's test, `e` what its contract says that it is
 module _ (b : List ℕ) (x : Answer × List ℕ) (t u : Bool) (e : t ≡ u) (p q : Stepped) where

@@ -4,7 +4,7 @@ ghost use Prim.Native.Nat.{_<_};
 ghost use lib.ListN.{length};
 ghost use Rattle.receiver.specs.Calls.{openedIn, takeSlot, announceStep};
 ghost use Rattle.record_bytes.specs.Layout.{recordAt};
-ghost use Rattle.in_place.specs.Seen.{Holds, rejection, steppedIn};
+ghost use Rattle.in_place_control.specs.Step.{Holds, rejection, steppedIn};
 use frame::refusal::Refusal;
 use lent_record::search::find_free;
 use lent_record::search::find_key;

@@ -3,12 +3,12 @@ use denote.Ref.{now}
 use Rattle.laws.specs.Choice.{then, else}
 use Rattle.session.specs.Announcements.{isRts, sessionOf}
 use Rattle.receiver.specs.declared.answer.Answer.the-variants.{Grant}
-use Rattle.in_place.proofs.Steps.{wrote-open, answered-put}
+use Rattle.in_place_control.proofs.Writes.{wrote-open, answered-put}
 use borrow.Author.Needs.{needs}
-use Rattle.in_place.proofs.announce.open_in.Statement.{statement}
-use Rattle.in_place.proofs.announce.open_in.Tie as tie
-use Rattle.in_place.proofs.announce.open_in.Reads as reads
-use Rattle.in_place.proofs.announce.open_in.Lts as lts
+use Rattle.in_place_control.proofs.announce.open_in.Statement.{statement}
+use Rattle.in_place_control.proofs.announce.open_in.Tie as tie
+use Rattle.in_place_control.proofs.announce.open_in.Reads as reads
+use Rattle.in_place_control.proofs.announce.open_in.Lts as lts
 use Rattle.record_bytes.proofs.put.put_slot.Reads as put-slot-reads
 use Rattle.record_bytes.proofs.word.word_at.Reads as word-at-reads
 use Rattle.session.proofs.announcement.first_cts.Reads as first-cts-reads

@@ -1,6 +1,6 @@
 -- An announcement by its cases, with the buffer around the receiver's step.
 use Prim.Native.Nat.{ℕ}
-use mathlib.Core.Path.{_≡_, sym, ap, _∙_}
+use mathlib.Core.Path.{_≡_, ap, _∙_}
 use mathlib.Core.Bool.{Bool, true, false, cond}
 use mathlib.Core.List.{List}
 use Rattle.frame.specs.declared.refusal.Refusal.{Refusal}
@@ -18,19 +18,15 @@ use Rattle.receiver.specs.declared.answer.Stepped.{Stepped}
 use Rattle.receiver.specs.Calls.{answered, refused, rejected, openedIn, takeSlot, onForm, announceStep}
 use Rattle.receiver.proofs.Cases.{by-case}
 use Rattle.record_bytes.specs.Layout.{slotsAt, recordAt}
-use Rattle.record_bytes.specs.Kept.{keep}
-use Rattle.in_place.specs.Seen.{rejection, steppedIn, Holds}
+use Rattle.in_place_control.specs.Step.{rejection, steppedIn, Holds}
+use Rattle.in_place_control.proofs.Writes.{unchanged}
 
 module _ (b : List ℕ) (h : Holds b) where
-  -- an answer with nothing written
-  pub unchanged : (a : Answer) → _≡_ {A = Answer × List ℕ} (a, b) (steppedIn b (answered (recordAt b) a))
-  unchanged a = ap (λ (l : List ℕ). (a, l)) (sym (keep b (h .bytes) (h .codes)))
-
   module _ (k : Key) (a : Announcement) where
     rejects : (n : Refusal) (t : Bool)
         → _≡_ {A = Answer × List ℕ} (cond t (RefusedRts (record { key = k; refusal = n; pgn = a .pgn })) (Refused n), b) (steppedIn b (cond t (answered (recordAt b) (RefusedRts (record { key = k; refusal = n; pgn = a .pgn }))) (refused (recordAt b) n)))
-    rejects n true = unchanged (RefusedRts (record { key = k; refusal = n; pgn = a .pgn }))
-    rejects n false = unchanged (Refused n)
+    rejects n true = unchanged b h (RefusedRts (record { key = k; refusal = n; pgn = a .pgn }))
+    rejects n false = unchanged b h (Refused n)
 
     pub rejecting : (x : Answer) (n : Refusal) → x ≡ rejection k a n → _≡_ {A = Answer × List ℕ} (x, b) (steppedIn b (rejected (recordAt b) k a n))
     rejecting x n e = ap (λ (y : Answer). (y, b)) e ∙ rejects n (isRts (a .kind))
@@ -66,7 +62,7 @@ module _ (b : List ℕ) (h : Holds b) where
       unfolding announceStep
       goes-wrong g =
           by-case (λ (u : Bool). steppedIn b (cond u (refused (recordAt b) AnnouncementForm) (onForm (formOf a) (recordAt b) k a))) t _ true _ e g
-          (unchanged (Refused AnnouncementForm))
+          (unchanged b h (Refused AnnouncementForm))
 
       pub by-form : t ≡ false → (f w : Form) → f ≡ formOf a → f ≡ w → (x : Answer × List ℕ) → x ≡ steppedIn b (onForm w (recordAt b) k a) → x ≡ steppedIn b (announceStep (recordAt b) k a)
       unfolding announceStep
