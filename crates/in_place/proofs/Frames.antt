@@ -10,20 +10,17 @@ use Rattle.laws.specs.Choice.{then, else, each-of}
 use Rattle.frame.specs.Judge.{judged}
 use Rattle.frame.specs.declared.Address.{Address}
 use Rattle.frame.specs.declared.judge.Verdict.{Verdict}
-use Rattle.frame.specs.declared.refusal.Refusal.{Refusal}
 use Rattle.frame.specs.declared.refusal.Refusal.the-variants.{OutOfBounds}
 use Rattle.multi_pg.specs.Groups.{Reading, good, bad, judgementOf}
-use Rattle.receiver.specs.declared.Receiver.{Receiver}
-use Rattle.receiver.specs.declared.answer.Stepped.{Stepped}
 use Rattle.receiver.specs.declared.answer.Answer.{Answer}
 use Rattle.receiver.specs.declared.answer.Answer.the-variants.{Groups, Refused}
 use Rattle.receiver.specs.Bounds.{inBounds}
-use Rattle.receiver.specs.Calls.{isReady, groupsStep, onVerdict, frameAll, frameStep, frameStore}
+use Rattle.receiver.specs.Calls.{isReady, groupsStep, onVerdict, frameAll}
 use Rattle.record_bytes.specs.Layout.{isRecord, recordAt}
-use Rattle.record_bytes.specs.Keeping.{putIn}
 use Rattle.record_bytes.specs.Kept.{Bytes, keep}
 use Rattle.lent_record.specs.Ready.{readyIn, Ready, ready-of}
-use Rattle.in_place.specs.Seen.{Seen, groupsAnswer, seenIn, frameIn, Holds}
+use Rattle.in_place_control.specs.Step.{Holds}
+use Rattle.in_place.specs.Seen.{Seen, groupsAnswer, seenIn, frameIn}
 
 module _ (b : List ℕ) (id : ℕ) (d m : List ℕ) (t : Bool) (et : t ≡ readyIn b (length m)) where
   pub not-ready : not t ≡ true → _≡_ {A = Seen} (Refused OutOfBounds, (b, m)) (frameIn b id d m)
@@ -37,7 +34,7 @@ module _ (b : List ℕ) (id : ℕ) (d m : List ℕ) (t : Bool) (et : t ≡ ready
     pub holds : Bytes b → Holds b
     holds y = record { codes = is-ready .codes; bytes = y }
 
-    pub by-whole : (x : Seen) → x ≡ seenIn b (frameAll (recordAt b) id d m) → x ≡ frameIn b id d m
+    by-whole : (x : Seen) → x ≡ seenIn b (frameAll (recordAt b) id d m) → x ≡ frameIn b id d m
     unfolding frameIn
     by-whole x e = then (readyIn b (length m)) _ _ _ (sym et ∙ not-false _ h) e
 
@@ -59,11 +56,3 @@ module _ (b : List ℕ) (id : ℕ) (d m : List ℕ) (t : Bool) (et : t ≡ ready
 pub by-groups : (b m : List ℕ) (h : Holds b) (a : Answer) (x : Reading) → a ≡ groupsAnswer (judgementOf x) → _≡_ {A = Seen} (a, (b, m)) (seenIn b (groupsStep x (recordAt b), m))
 by-groups b m h a (good gs) e = ap (λ (y : Answer). (y, (b, m))) e ∙ ap (λ (l : List ℕ). (Groups, (l, m))) (sym (keep b (h .bytes) (h .codes)))
 by-groups b m h a (bad n) e = ap (λ (y : Answer). (y, (b, m))) e ∙ ap (λ (l : List ℕ). (Refused n, (l, m))) (sym (keep b (h .bytes) (h .codes)))
-
-pub by-record : (b : List ℕ) (id : ℕ) (d m : List ℕ) (r : Receiver) (s : Stepped) (ob om : List ℕ) → r ≡ recordAt b → s ≡ frameStep r id d m → om ≡ frameStore r id d m → ob ≡ putIn b (s .next)
-    → _≡_ {A = Seen} (s .answer, (ob, om)) (seenIn b (frameAll (recordAt b) id d m))
-by-record b id d m r s ob om er es em eb =
-    ap (λ (l : List ℕ). (s .answer, (l, om))) eb
-    ∙ ap (λ (l : List ℕ). (s .answer, (putIn b (s .next), l))) em
-    ∙ ap (λ (z : Stepped). (z .answer, (putIn b (z .next), frameStore r id d m))) es
-    ∙ ap (λ (z : Receiver). seenIn b (frameAll z id d m)) er

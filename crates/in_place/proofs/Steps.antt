@@ -1,60 +1,28 @@
 -- What the code wrote into the buffer, beside what the receiver's step says.
-use Prim.Native.Nat.{ℕ, _+_, _*_, _<_}
-use native.Mathlib.Omega.{arith}
-use mathlib.Core.Path.{_≡_, refl, sym, ap, _∙_}
-use mathlib.Core.Bool.{Bool, true, false, cond, _&&_}
-use mathlib.Core.List.{List, []}
-use lib.Dec.{eqb}
-use lib.ListN.{length, getD, replicate}
-use lib.Seq.{paste}
-use borrow.Author.Tests.{eqb-true, ne-eqb}
+use Prim.Native.Nat.{ℕ}
+use mathlib.Core.Path.{_≡_, sym, ap, _∙_}
+use mathlib.Core.Bool.{Bool, true, false, cond}
+use mathlib.Core.List.{List}
 use Rattle.frame.specs.declared.refusal.Refusal.{Refusal}
 use Rattle.session.specs.declared.Session.{Session}
-use Rattle.session.specs.Segments.{advancedBy}
 use Rattle.slots.specs.declared.SlotState.{SlotState}
 use Rattle.slots.specs.declared.SlotState.the-variants.{Free, Open}
 use Rattle.slots.specs.declared.Found.{Found}
 use Rattle.slots.specs.declared.Found.the-variants.{At, Nothing}
-use Rattle.slots.specs.Slots.{freeSlot, onFound, onState}
+use Rattle.slots.specs.Slots.{onFound, onState}
 use Rattle.receiver.specs.declared.answer.Answer.{Answer}
 use Rattle.receiver.specs.declared.answer.Answer.the-variants.{Refused}
-use Rattle.receiver.specs.Calls.{Outcome, refused, withSlot}
-use Rattle.record_bytes.specs.Layout.{sessionBytes, sessionAt, slotAt, piecesOf, slotsAt, recordAt}
-use Rattle.record_bytes.specs.Keeping.{kept, putIn}
-use Rattle.record_bytes.specs.Kept.{keep, put-one}
-use Rattle.lent_record.specs.Held.{slot-of}
-use Rattle.in_place.specs.Seen.{Seen, seenIn, Holds}
-
-abbrev isOpen : SlotState → Bool
-isOpen Free = false
-isOpen (Open s) = true
-
-open-code : (p : List ℕ) (s : Session) (t : Bool) → t ≡ eqb (getD p 0 0) 1 → _≡_ {A = SlotState} (cond t (Open (sessionAt p)) Free) (Open s) → t ≡ true
-open-code p s true e h = refl
-open-code p s false e h = ap isOpen h
+use Rattle.receiver.specs.Calls.{Outcome, refused}
+use Rattle.record_bytes.specs.Layout.{recordAt}
+use Rattle.record_bytes.specs.Kept.{keep}
+use Rattle.in_place_control.specs.Step.{Holds}
+use Rattle.in_place.specs.Seen.{Seen, seenIn}
 
 module _ (b : List ℕ) (h : Holds b) where
-  -- a session written into slot i
-  pub wrote-open : (i : ℕ) (s t : Session) (o : List ℕ) → i < 8 → t ≡ s → o ≡ paste b (9 + 30 * i) (sessionBytes t) 30 → o ≡ putIn b (withSlot (recordAt b) i (Open s))
-  wrote-open i s t o low e p =
-      p ∙ ap (λ (x : Session). paste b (9 + 30 * i) (sessionBytes x) 30) e ∙ sym (put-one b (h .bytes) (h .codes) i (Open s) low)
-
-  -- an open slot freed
-  pub wrote-free : (i : ℕ) (s : Session) (o : List ℕ) → i < 8 → getD (slotsAt b) i freeSlot .state ≡ Open s → o ≡ paste b (9 + 30 * i) (replicate 30 0) 30 → o ≡ putIn b (withSlot (recordAt b) i Free)
-  wrote-free i s o low st p =
-      let q : List ℕ = getD (piecesOf b) i [] in
-      let one : getD q 0 0 ≡ 1 = eqb-true _ _ (open-code q s (eqb (getD q 0 0) 1) refl (sym (ap (λ x. x .state) (slot-of b i)) ∙ st)) in
-      p
-      ∙ ap (λ (t : Bool). paste b (9 + 30 * i) (cond t q (replicate 30 0)) 30) (sym (ne-eqb (getD q 0 0) 0 (λ z. omega arith)))
-      ∙ sym (put-one b (h .bytes) (h .codes) i Free low)
-
   -- nothing written
   pub wrote-none : (a : Answer) (n : Refusal) (m : List ℕ) → a ≡ Refused n → _≡_ {A = Seen} (a, (b, m)) (seenIn b (refused (recordAt b) n, m))
   wrote-none a n m e =
       ap (λ (x : Answer). (x, (b, m))) e ∙ ap (λ (l : List ℕ). (Refused n, (l, m))) (sym (keep b (h .bytes) (h .codes)))
-
-pub answered-put : (a b : Answer) (x y : List ℕ) → a ≡ b → x ≡ y → _≡_ {A = Answer × List ℕ} (a, x) (b, y)
-answered-put a b x y p q = rw (p, q)
 
 pub seen-put : (a : Answer) (o : List ℕ) (e : Answer × List ℕ) (m l : List ℕ) → _≡_ {A = Answer × List ℕ} (a, o) e → m ≡ l → _≡_ {A = Seen} (a, (o, m)) (e .0, (e .1, l))
 seen-put a o e m l p q = ap (λ (x : Answer × List ℕ). (x .0, (x .1, m))) p ∙ ap (λ (x : List ℕ). (e .0, (e .1, x))) q

@@ -1,7 +1,6 @@
 -- A step of the receiver, seen in the buffer that holds its record: the answer, the record's bytes and the store.
 use Prim.Native.Nat.{ℕ}
-use mathlib.Core.Path.{_≡_}
-use mathlib.Core.Bool.{true, cond}
+use mathlib.Core.Bool.{cond}
 use mathlib.Core.List.{List}
 use lib.ListN.{length}
 use Rattle.frame.specs.declared.refusal.Refusal.the-variants.{OutOfBounds}
@@ -9,16 +8,10 @@ use Rattle.multi_pg.specs.declared.Judgement.{Judgement}
 use Rattle.multi_pg.specs.declared.Judgement.the-variants as judgement
 use Rattle.receiver.specs.declared.answer.Answer.{Answer}
 use Rattle.receiver.specs.declared.answer.Answer.the-variants.{Groups, Refused}
-use Rattle.receiver.specs.declared.answer.Stepped.{Stepped}
 use Rattle.receiver.specs.Calls.{Outcome, frameAll}
-use Rattle.record_bytes.specs.Layout.{isRecord, recordAt}
+use Rattle.record_bytes.specs.Layout.{recordAt}
 use Rattle.record_bytes.specs.Keeping.{putIn}
-use Rattle.record_bytes.specs.Kept.{Bytes}
 use Rattle.lent_record.specs.Ready.{readyIn}
-
--- where the store stays as it is
-abbrev pub steppedIn : List ℕ → Stepped → Answer × List ℕ
-steppedIn b x = (x .answer, putIn b (x .next))
 
 abbrev pub Seen : Type 0
 Seen = Answer × (List ℕ × List ℕ)
@@ -35,8 +28,3 @@ groupsAnswer (judgement.Refused n) = Refused n
 unfoldable pub frameIn : List ℕ → ℕ → List ℕ → List ℕ → Seen
 frameIn b id d m =
     cond (readyIn b (length m)) (seenIn b (frameAll (recordAt b) id d m)) (Refused OutOfBounds, (b, m))
-
--- a buffer that holds a record
-pub record Holds (b : List ℕ) : Type 0 where
-  pub codes : isRecord b ≡ true
-  pub bytes : Bytes b

@@ -7,16 +7,17 @@ ghost use Rattle.session.specs.Bounds.{announcedOk};
 ghost use Rattle.slots.specs.declared.SlotState.the-variants.{Open};
 ghost use Rattle.slots.specs.Slots.{freeSlot};
 ghost use Rattle.receiver.specs.Bounds.{inBounds};
-ghost use Rattle.receiver.specs.Calls.{taken, ended, segmentOpen, segmentStep};
+ghost use Rattle.receiver.specs.Calls.{taken, segmentOpen, segmentStep};
 ghost use Rattle.record_bytes.specs.Layout.{slotsAt, recordAt};
-ghost use Rattle.in_place.specs.Seen.{Holds, steppedIn, seenIn};
+ghost use Rattle.in_place_control.specs.Step.{Holds, steppedIn};
+ghost use Rattle.in_place.specs.Seen.{seenIn};
 use frame::SegmentNumber;
 use frame::refusal::Refusal;
+use in_place_control::step::end_session;
 use lent_record::search::find_key;
 use lent_record::search::slot_in;
 use progress::brought_forward;
 use receiver::answer::Answer;
-use receiver::answer::Ending;
 use receiver::answer::Taken;
 use record_bytes::put::put_slot;
 use record_bytes::word::word_at;
@@ -53,28 +54,6 @@ fn take(buffer: &mut [u8], i: usize, s: Session, n: SegmentNumber) -> Answer
     Answer::Taken(Taken {
         key: key,
         number: n,
-    })
-}
-
-// A refusal that ends the session s of slot i.
-fn end_session(buffer: &mut [u8], i: usize, s: Session, n: Refusal) -> Answer
-    requires { ⌜ (i < 8) × (length (now buffer) ≡ 249) × Holds (now buffer) × (getD (slotsAt (now buffer)) i freeSlot .state ≡ Open s) ⌝ }
-    ensures { λ x. ⌜ (x, now (buffer .exit)) ≡ steppedIn (now (buffer .entry)) (ended (recordAt (now (buffer .entry))) i s n) ⌝ }
-{
-    put_slot(
-        buffer,
-        i,
-        Slot {
-            state: SlotState::Free,
-        },
-    );
-    let key = s.key;
-    let kind = s.kind;
-    Answer::Ended(Ending {
-        key: key,
-        kind: kind,
-        refusal: n,
-        pgn: s.pgn,
     })
 }
 

@@ -2,14 +2,14 @@
 use Prim.Native.Nat.{ℕ, _+_, _*_, _<_}
 use native.Mathlib.Omega.{arith}
 use mathlib.Core.Path.{_≡_, refl, sym, ap, _∙_}
-use mathlib.Core.Bool.{Bool, true, false, cond, _&&_}
+use mathlib.Core.Bool.{Bool, true, false, cond, not, _&&_}
 use mathlib.Core.List.{List, []}
 use lib.Dec.{eqb}
 use lib.ListN.{length, getD, drop, length-map, List·getD-map}
 use Rattle.transport.specs.declared.Key.{Key}
 use Rattle.session.specs.declared.Session.{Session}
 use Rattle.slots.specs.declared.SlotState.the-variants.{Free, Open}
-use Rattle.slots.specs.Slots.{freeSlot, stateHolds, holdsKey}
+use Rattle.slots.specs.Slots.{freeSlot, freeState, isFree, stateHolds, holdsKey}
 use Rattle.record_bytes.specs.Layout.{sessionAt, slotAt, piecesOf, slotsAt}
 use Rattle.record_bytes.specs.Pieces.{length-pieces, byte-of}
 
@@ -18,6 +18,20 @@ length-slots b = length-map (piecesOf b) slotAt ∙ length-pieces 8 (drop 9 b)
 
 pub slot-of : (b : List ℕ) (i : ℕ) → getD (slotsAt b) i freeSlot ≡ slotAt (getD (piecesOf b) i [])
 slot-of b i = List·getD-map slotAt (piecesOf b) i []
+
+free-when : (s : Session) (t : Bool) → not t ≡ freeState (cond t (Open s) Free)
+free-when s true = refl
+free-when s false = refl
+
+-- a slot is free unless its first byte says that it is open
+pub freed : (b : List ℕ) (i : ℕ) → i < 8 → not (eqb (getD b (9 + 30 * i) 0) 1) ≡ isFree (getD (slotsAt b) i freeSlot)
+freed b i h =
+    let at : ℕ = 9 + 30 * i in
+    let p : List ℕ = getD (piecesOf b) i [] in
+    let e : at ≡ at + 0 = omega arith in
+    ap (λ (x : ℕ). not (eqb x 1)) (ap (λ (n : ℕ). getD b n 0) e ∙ sym (byte-of b i 0 h (omega arith)))
+    ∙ free-when (sessionAt p) (eqb (getD p 0 0) 1)
+    ∙ ap isFree (sym (slot-of b i))
 
 -- Whether bytes say that the key is open: the state, SA, DA and session number.
 abbrev pub bytesHold : Key → ℕ → ℕ → ℕ → ℕ → Bool

@@ -2,7 +2,7 @@
 ghost use mathlib.Core.Path.{_≡_};
 ghost use Prim.Native.Nat.{_≤_, _<_};
 ghost use lib.ListN.{length, getD, drop};
-ghost use Rattle.slots.specs.Slots.{freeSlot, holdsKey, keyPlace, Within};
+ghost use Rattle.slots.specs.Slots.{freeSlot, isFree, holdsKey, firstFree, keyPlace, Within};
 ghost use Rattle.slots.specs.Bounds.{anyHolds};
 ghost use Rattle.record_bytes.specs.Layout.{slotsAt};
 use record_bytes::layout::HEAD_BYTES;
@@ -12,6 +12,14 @@ use slots::Found;
 use slots::SLOTS;
 use slots::Slot;
 use transport::Key;
+
+// Whether slot i is free.
+fn is_free(bytes: &[u8], i: usize) -> bool
+    requires { ⌜ (length (now bytes) ≡ 249) × (i < 8) ⌝ }
+    ensures { λ r. ⌜ r ≡ isFree (getD (slotsAt (now (bytes .entry))) i freeSlot) ⌝ }
+{
+    bytes[HEAD_BYTES + SLOT_BYTES * i] != 1
+}
 
 // Whether slot i has the key open.
 pub fn holds_key(bytes: &[u8], i: usize, k: Key) -> bool
@@ -41,6 +49,24 @@ pub fn any_holds(bytes: &[u8], from: usize, k: Key) -> bool
         j = j + 1;
     }
     false
+}
+
+// The lowest free slot.
+pub fn find_free(bytes: &[u8]) -> Found
+    requires { ⌜ length (now bytes) ≡ 249 ⌝ }
+    ensures { λ r. ⌜ (r ≡ firstFree (slotsAt (now (bytes .entry)))) × Within r 8 ⌝ }
+{
+    let mut i: usize = 0;
+    let found = loop {
+        if i == SLOTS {
+            break Found::Nothing;
+        }
+        if is_free(bytes, i) {
+            break Found::At(i);
+        }
+        i = i + 1;
+    };
+    found
 }
 
 // The slot that has the key open.

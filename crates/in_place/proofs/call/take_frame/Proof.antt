@@ -1,107 +1,102 @@
-use Prim.Native.Nat.{_≤_}
 use native.Mathlib.Omega.{arith}
-use mathlib.Core.Path.{refl, sym, ap, _∙_}
+use mathlib.Core.Path.{refl}
 use denote.Ref.{now}
 use Rattle.multi_pg.specs.Groups.{reading}
-use Rattle.in_place.proofs.Steps.{wrote-none}
-use Rattle.in_place.proofs.Frames.{not-ready, is-ready, holds, by-whole, by-verdict, by-groups}
+use Rattle.in_place.proofs.Steps.{wrote-none, seen-put}
+use Rattle.in_place.proofs.Frames.{not-ready, is-ready, holds, by-verdict, by-groups}
 use borrow.Author.Needs.{needs}
 use Rattle.in_place.proofs.call.take_frame.Statement.{statement}
 use Rattle.in_place.proofs.call.take_frame.Tie as tie
 use Rattle.in_place.proofs.call.take_frame.Reads as reads
 use Rattle.in_place.proofs.call.take_frame.Lts as lts
 use Rattle.frame.proofs.judge.judge.Reads as judge-reads
+use Rattle.in_place.proofs.call.control.Reads as control-reads
 use Rattle.in_place.proofs.call.data_frame.Reads as data-frame-reads
 use Rattle.in_place.proofs.call.groups.Reads as groups-reads
-use Rattle.in_place.proofs.call.whole.Reads as whole-reads
 use Rattle.lent_record.proofs.ready.is_ready.Reads as is-ready-reads
 use Rattle.lent_record.proofs.ready.own_of.Reads as own-of-reads
 
--- src/call.rt:66:9
+-- src/call.rt:71:9
 is-ready-requires : tie.Need-is-ready-requires
 is-ready-requires c κs = search needs
 
--- src/call.rt:67:9
+-- src/call.rt:72:9
 same-length : tie.Need-same-length
 same-length c = search needs
 
--- src/call.rt:67:9
+-- src/call.rt:72:9
 returns : tie.Need-returns
 returns c = not-ready (now (c .before .before .before .before .before .before .args .buffer)) (c .before .before .before .before .before .before .args .id) (now (c .before .before .before .before .before .before .args .bytes)) (now (c .before .before .before .before .before .before .args .store)) (c .before .is-ready .result) (c .before .is-ready .ensures) (c .if1 .taken)
 
--- src/call.rt:69:9
+-- src/call.rt:74:9
 own-of-requires : tie.Need-own-of-requires
 own-of-requires c κs = let l = is-ready (now (c .before .before .before .before .before .before .before .args .buffer)) (c .before .before .before .before .before .before .before .args .id) (now (c .before .before .before .before .before .before .before .args .bytes)) (now (c .before .before .before .before .before .before .before .args .store)) (c .before .before .is-ready .result) (c .before .before .is-ready .ensures) (c .before .if1 .left) .long in omega (arith, l)
 
--- src/call.rt:70:11
+-- src/call.rt:75:11
 judge-requires : tie.Need-judge-requires
 judge-requires c κs = search needs
 
--- src/call.rt:71:32
+-- src/call.rt:76:32
 enum-told : tie.Need-enum-told
 enum-told c = search needs
 
--- src/call.rt:71:32
+-- src/call.rt:76:32
 groups-requires : tie.Need-groups-requires
 groups-requires c κs = search needs
 
--- src/call.rt:72:38
-enum-told-2 : tie.Need-enum-told-2
-enum-told-2 c = search needs
-
--- src/call.rt:72:32
-whole-requires : tie.Need-whole-requires
-whole-requires c κs = is-ready (now (c .before .before .before .before .before .before .before .before .before .before .before .before .before .args .buffer)) (c .before .before .before .before .before .before .before .before .before .before .before .before .before .args .id) (now (c .before .before .before .before .before .before .before .before .before .before .before .before .before .args .bytes)) (now (c .before .before .before .before .before .before .before .before .before .before .before .before .before .args .store)) (c .before .before .before .before .before .before .before .before .is-ready .result) (c .before .before .before .before .before .before .before .before .is-ready .ensures) (c .before .before .before .before .before .before .before .if1 .left) .long
-
--- src/call.rt:73:23
+-- src/call.rt:77:26
 enum-known-route : tie.Need-enum-known-route
 enum-known-route c = search needs
 
--- src/call.rt:73:33
+-- src/call.rt:77:36
+control-requires : tie.Need-control-requires
+control-requires c κs = (is-ready (now (c .before .before .before .before .before .before .before .before .before .before .before .before .before .args .buffer)) (c .before .before .before .before .before .before .before .before .before .before .before .before .before .args .id) (now (c .before .before .before .before .before .before .before .before .before .before .before .before .before .args .bytes)) (now (c .before .before .before .before .before .before .before .before .before .before .before .before .before .args .store)) (c .before .before .before .before .before .before .before .before .is-ready .result) (c .before .before .before .before .before .before .before .before .is-ready .ensures) (c .before .before .before .before .before .before .before .if1 .left) .long, holds (now (c .before .before .before .before .before .before .before .before .before .before .before .before .before .args .buffer)) (c .before .before .before .before .before .before .before .before .before .before .before .before .before .args .id) (now (c .before .before .before .before .before .before .before .before .before .before .before .before .before .args .bytes)) (now (c .before .before .before .before .before .before .before .before .before .before .before .before .before .args .store)) (c .before .before .before .before .before .before .before .before .is-ready .result) (c .before .before .before .before .before .before .before .before .is-ready .ensures) (c .before .before .before .before .before .before .before .if1 .left) (c .before .before .before .before .before .own-of .ensures .1))
+
+-- src/call.rt:78:23
+enum-known-route-2 : tie.Need-enum-known-route-2
+enum-known-route-2 c = search needs
+
+-- src/call.rt:78:33
 data-frame-requires : tie.Need-data-frame-requires
 data-frame-requires c κs = let g = is-ready (now (c .before .before .before .before .before .before .before .before .before .before .before .before .before .before .args .buffer)) (c .before .before .before .before .before .before .before .before .before .before .before .before .before .before .args .id) (now (c .before .before .before .before .before .before .before .before .before .before .before .before .before .before .args .bytes)) (now (c .before .before .before .before .before .before .before .before .before .before .before .before .before .before .args .store)) (c .before .before .before .before .before .before .before .before .before .is-ready .result) (c .before .before .before .before .before .before .before .before .before .is-ready .ensures) (c .before .before .before .before .before .before .before .before .if1 .left) in (g .bounds, g .store, g .long, holds (now (c .before .before .before .before .before .before .before .before .before .before .before .before .before .before .args .buffer)) (c .before .before .before .before .before .before .before .before .before .before .before .before .before .before .args .id) (now (c .before .before .before .before .before .before .before .before .before .before .before .before .before .before .args .bytes)) (now (c .before .before .before .before .before .before .before .before .before .before .before .before .before .before .args .store)) (c .before .before .before .before .before .before .before .before .before .is-ready .result) (c .before .before .before .before .before .before .before .before .before .is-ready .ensures) (c .before .before .before .before .before .before .before .before .if1 .left) (c .before .before .before .before .before .before .own-of .ensures .1))
 
--- src/call.rt:74:26
+-- src/call.rt:79:26
 enum-known-n : tie.Need-enum-known-n
 enum-known-n c = search needs
 
--- src/call.rt:63:1
+-- src/call.rt:68:1
 same-length-2 : tie.Need-same-length-2
 same-length-2 c = search needs
 
--- src/call.rt:63:1
+-- src/call.rt:68:1
 returns-2 : tie.Need-returns-2
 returns-2 c = by-verdict (now (c .before .before .before .before .before .before .before .before .before .before .before .before .args .buffer)) (c .before .before .before .before .before .before .before .before .before .before .before .before .args .id) (now (c .before .before .before .before .before .before .before .before .before .before .before .before .args .bytes)) (now (c .before .before .before .before .before .before .before .before .before .before .before .before .args .store)) (c .before .before .before .before .before .before .before .is-ready .result) (c .before .before .before .before .before .before .before .is-ready .ensures) (c .before .before .before .before .before .before .if1 .left) (c .before .before .before .before .own-of .result) _ _ _ (c .before .before .before .before .own-of .ensures .0) (c .before .before .before .judge .ensures) (c .before .enum-told .given .1) (by-groups (now (c .before .before .before .before .before .before .before .before .before .before .before .before .args .buffer)) (now (c .before .before .before .before .before .before .before .before .before .before .before .before .args .store)) (holds (now (c .before .before .before .before .before .before .before .before .before .before .before .before .args .buffer)) (c .before .before .before .before .before .before .before .before .before .before .before .before .args .id) (now (c .before .before .before .before .before .before .before .before .before .before .before .before .args .bytes)) (now (c .before .before .before .before .before .before .before .before .before .before .before .before .args .store)) (c .before .before .before .before .before .before .before .is-ready .result) (c .before .before .before .before .before .before .before .is-ready .ensures) (c .before .before .before .before .before .before .if1 .left) (c .before .before .before .before .own-of .ensures .1)) _ (reading (now (c .before .before .before .before .before .before .before .before .before .before .before .before .args .bytes))) (c .groups .ensures))
 
--- src/call.rt:63:1
+-- src/call.rt:68:1
 same-length-3 : tie.Need-same-length-3
 same-length-3 c = search needs
 
--- src/call.rt:63:1
+-- src/call.rt:68:1
+returns-3 : tie.Need-returns-3
+returns-3 c = by-verdict (now (c .before .before .before .before .before .before .before .before .before .before .before .before .before .before .before .before .args .buffer)) (c .before .before .before .before .before .before .before .before .before .before .before .before .before .before .before .before .args .id) (now (c .before .before .before .before .before .before .before .before .before .before .before .before .before .before .before .before .args .bytes)) (now (c .before .before .before .before .before .before .before .before .before .before .before .before .before .before .before .before .args .store)) (c .before .before .before .before .before .before .before .before .before .before .before .is-ready .result) (c .before .before .before .before .before .before .before .before .before .before .before .is-ready .ensures) (c .before .before .before .before .before .before .before .before .before .before .if1 .left) (c .before .before .before .before .before .before .before .before .own-of .result) _ _ _ (c .before .before .before .before .before .before .before .before .own-of .ensures .0) (c .before .before .before .before .before .before .before .judge .ensures) (c .before .before .before .before .before .route .given .1) (seen-put _ _ _ _ _ (c .before .before .control .ensures) refl)
+
+-- src/call.rt:68:1
 same-length-4 : tie.Need-same-length-4
 same-length-4 c = search needs
 
--- src/call.rt:63:1
-returns-3 : tie.Need-returns-3
-returns-3 c = by-whole (now (c .before .before .before .before .before .before .before .before .before .before .before .before .before .before .before .before .before .before .args .buffer)) (c .before .before .before .before .before .before .before .before .before .before .before .before .before .before .before .before .before .before .args .id) (now (c .before .before .before .before .before .before .before .before .before .before .before .before .before .before .before .before .before .before .args .bytes)) (now (c .before .before .before .before .before .before .before .before .before .before .before .before .before .before .before .before .before .before .args .store)) (c .before .before .before .before .before .before .before .before .before .before .before .before .before .is-ready .result) (c .before .before .before .before .before .before .before .before .before .before .before .before .before .is-ready .ensures) (c .before .before .before .before .before .before .before .before .before .before .before .before .if1 .left) _ (c .before .before .before .before .whole .ensures)
-
--- src/call.rt:63:1
+-- src/call.rt:68:1
 same-length-5 : tie.Need-same-length-5
 same-length-5 c = search needs
 
--- src/call.rt:63:1
+-- src/call.rt:68:1
+returns-4 : tie.Need-returns-4
+returns-4 c = by-verdict (now (c .before .before .before .before .before .before .before .before .before .before .before .before .before .before .before .before .before .before .before .args .buffer)) (c .before .before .before .before .before .before .before .before .before .before .before .before .before .before .before .before .before .before .before .args .id) (now (c .before .before .before .before .before .before .before .before .before .before .before .before .before .before .before .before .before .before .before .args .bytes)) (now (c .before .before .before .before .before .before .before .before .before .before .before .before .before .before .before .before .before .before .before .args .store)) (c .before .before .before .before .before .before .before .before .before .before .before .before .before .before .is-ready .result) (c .before .before .before .before .before .before .before .before .before .before .before .before .before .before .is-ready .ensures) (c .before .before .before .before .before .before .before .before .before .before .before .before .before .if1 .left) (c .before .before .before .before .before .before .before .before .before .before .before .own-of .result) _ _ _ (c .before .before .before .before .before .before .before .before .before .before .before .own-of .ensures .0) (c .before .before .before .before .before .before .before .before .before .before .judge .ensures) (c .before .before .before .before .before .before .before .before .route2 .given .1) (c .before .before .before .before .data-frame .ensures)
+
+-- src/call.rt:68:1
 same-length-6 : tie.Need-same-length-6
 same-length-6 c = search needs
 
--- src/call.rt:63:1
-returns-4 : tie.Need-returns-4
-returns-4 c = by-verdict (now (c .before .before .before .before .before .before .before .before .before .before .before .before .before .before .before .before .before .before .before .args .buffer)) (c .before .before .before .before .before .before .before .before .before .before .before .before .before .before .before .before .before .before .before .args .id) (now (c .before .before .before .before .before .before .before .before .before .before .before .before .before .before .before .before .before .before .before .args .bytes)) (now (c .before .before .before .before .before .before .before .before .before .before .before .before .before .before .before .before .before .before .before .args .store)) (c .before .before .before .before .before .before .before .before .before .before .before .before .before .before .is-ready .result) (c .before .before .before .before .before .before .before .before .before .before .before .before .before .before .is-ready .ensures) (c .before .before .before .before .before .before .before .before .before .before .before .before .before .if1 .left) (c .before .before .before .before .before .before .before .before .before .before .before .own-of .result) _ _ _ (c .before .before .before .before .before .before .before .before .before .before .before .own-of .ensures .0) (c .before .before .before .before .before .before .before .before .before .before .judge .ensures) (c .before .before .before .before .before .before .before .before .route .given .1) (c .before .before .before .before .data-frame .ensures)
-
--- src/call.rt:63:1
-same-length-7 : tie.Need-same-length-7
-same-length-7 c = search needs
-
--- src/call.rt:63:1
+-- src/call.rt:68:1
 returns-5 : tie.Need-returns-5
 returns-5 c = by-verdict (now (c .before .before .before .before .before .before .before .before .before .before .before .before .args .buffer)) (c .before .before .before .before .before .before .before .before .before .before .before .before .args .id) (now (c .before .before .before .before .before .before .before .before .before .before .before .before .args .bytes)) (now (c .before .before .before .before .before .before .before .before .before .before .before .before .args .store)) (c .before .before .before .before .before .before .before .is-ready .result) (c .before .before .before .before .before .before .before .is-ready .ensures) (c .before .before .before .before .before .before .if1 .left) (c .before .before .before .before .own-of .result) _ _ _ (c .before .before .before .before .own-of .ensures .0) (c .before .before .before .judge .ensures) (c .before .n .given .1) (wrote-none (now (c .before .before .before .before .before .before .before .before .before .before .before .before .args .buffer)) (holds (now (c .before .before .before .before .before .before .before .before .before .before .before .before .args .buffer)) (c .before .before .before .before .before .before .before .before .before .before .before .before .args .id) (now (c .before .before .before .before .before .before .before .before .before .before .before .before .args .bytes)) (now (c .before .before .before .before .before .before .before .before .before .before .before .before .args .store)) (c .before .before .before .before .before .before .before .is-ready .result) (c .before .before .before .before .before .before .before .is-ready .ensures) (c .before .before .before .before .before .before .if1 .left) (c .before .before .before .before .own-of .ensures .1)) _ _ (now (c .before .before .before .before .before .before .before .before .before .before .before .before .args .store)) refl)
 
@@ -116,18 +111,17 @@ take-frame-spec =
     judge-requires
     enum-told
     groups-requires
-    enum-told-2
-    whole-requires
     enum-known-route
+    control-requires
+    enum-known-route-2
     data-frame-requires
     enum-known-n
     same-length-2
     returns-2
     same-length-3
-    same-length-4
     returns-3
+    same-length-4
     same-length-5
-    same-length-6
     returns-4
-    same-length-7
+    same-length-6
     returns-5)

@@ -16,7 +16,7 @@ use Rattle.in_place.proofs.segment.segment_open.Statement.{statement}
 use Rattle.in_place.proofs.segment.segment_open.Tie as tie
 use Rattle.in_place.proofs.segment.segment_open.Reads as reads
 use Rattle.in_place.proofs.segment.segment_open.Lts as lts
-use Rattle.in_place.proofs.segment.end_session.Reads as end-session-reads
+use Rattle.in_place_control.proofs.step.end_session.Reads as end-session-reads
 use Rattle.in_place.proofs.segment.take.Reads as take-reads
 use Rattle.session.proofs.segment.due.Reads as due-reads
 use Rattle.session.proofs.segment.judge_segment.Reads as judge-segment-reads

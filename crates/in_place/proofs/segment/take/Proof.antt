@@ -3,7 +3,7 @@ use denote.Ref.{now}
 use Rattle.laws.specs.Choice.{then, else}
 use Rattle.session.specs.Segments.{advancedBy}
 use Rattle.receiver.specs.declared.answer.Answer.the-variants.{Grant}
-use Rattle.in_place.proofs.Steps.{wrote-open, answered-put}
+use Rattle.in_place_control.proofs.Writes.{wrote-open, answered-put}
 use borrow.Author.Needs.{needs}
 use Rattle.in_place.proofs.segment.take.Statement.{statement}
 use Rattle.in_place.proofs.segment.take.Tie as tie

@@ -1,11 +1,11 @@
-use mathlib.Core.Path.{_≡_, refl, sym, ap, _∙_}
+use mathlib.Core.Path.{refl}
 use denote.Ref.{now}
-use Rattle.in_place.proofs.Steps.{wrote-free, answered-put}
+use Rattle.in_place_control.proofs.Writes.{wrote-free, answered-put}
 use borrow.Author.Needs.{needs}
-use Rattle.in_place.proofs.segment.end_session.Statement.{statement}
-use Rattle.in_place.proofs.segment.end_session.Tie as tie
-use Rattle.in_place.proofs.segment.end_session.Reads as reads
-use Rattle.in_place.proofs.segment.end_session.Lts as lts
+use Rattle.in_place_control.proofs.step.end_session.Statement.{statement}
+use Rattle.in_place_control.proofs.step.end_session.Tie as tie
+use Rattle.in_place_control.proofs.step.end_session.Reads as reads
+use Rattle.in_place_control.proofs.step.end_session.Lts as lts
 use Rattle.record_bytes.proofs.put.put_slot.Reads as put-slot-reads
 
 -- src/segment.rt:64:5
