@@ -33,53 +33,37 @@ freed b i h =
     ∙ free-when (sessionAt p) (eqb (getD p 0 0) 1)
     ∙ ap isFree (sym (slot-of b i))
 
--- Whether bytes say that the key is open: the state, SA, DA and session number.
-abbrev pub bytesHold : Key → ℕ → ℕ → ℕ → ℕ → Bool
-bytesHold k state sa da session =
-    eqb state 1 && eqb sa (k .sa .0) && eqb da (k .da .0) && eqb session (k .session .0)
+-- Whether the bytes of a slot from a place on say that the key is open: the state, SA, DA and session number.
+abbrev pub keyOpenAt : Key → List ℕ → ℕ → Bool
+keyOpenAt k b at =
+    eqb (getD b at 0) 1
+    && eqb (getD b (at + 2) 0) (k .sa .0)
+    && eqb (getD b (at + 3) 0) (k .da .0)
+    && eqb (getD b (at + 4) 0) (k .session .0)
 
 holds-when : (k : Key) (s : Session) (t : Bool) → (t && eqb (s .key .sa .0) (k .sa .0) && eqb (s .key .da .0) (k .da .0) && eqb (s .key .session .0) (k .session .0)) ≡ stateHolds k (cond t (Open s) Free)
 holds-when k s true = refl
 holds-when k s false = refl
 
-pub held : (k : Key) (b : List ℕ) (i : ℕ) → i < 8
-    → bytesHold k (getD b (9 + 30 * i) 0) (getD b (9 + 30 * i + 2) 0) (getD b (9 + 30 * i + 3) 0) (getD b (9 + 30 * i + 4) 0) ≡ holdsKey k (getD (slotsAt b) i freeSlot)
-held k b i h =
-    let at : ℕ = 9 + 30 * i in
+same-tests : {x x′ y y′ z z′ w w′ : ℕ} → x ≡ x′ → y ≡ y′ → z ≡ z′ → w ≡ w′ → (k : Key)
+    → (eqb x 1 && eqb y (k .sa .0) && eqb z (k .da .0) && eqb w (k .session .0)) ≡ (eqb x′ 1 && eqb y′ (k .sa .0) && eqb z′ (k .da .0) && eqb w′ (k .session .0))
+same-tests p q r s k = rw (p, q, r, s)
+
+pub held : (k : Key) (b : List ℕ) (i at : ℕ) → i < 8 → at ≡ 9 + 30 * i → keyOpenAt k b at ≡ holdsKey k (getD (slotsAt b) i freeSlot)
+held k b i at h e =
     let p : List ℕ = getD (piecesOf b) i [] in
-    let e : at ≡ at + 0 = omega arith in
-    ap (λ (x : ℕ). bytesHold k x (getD b (at + 2) 0) (getD b (at + 3) 0) (getD b (at + 4) 0)) (ap (λ (n : ℕ). getD b n 0) e ∙ sym (byte-of b i 0 h (omega arith)))
-    ∙ ap (λ (x : ℕ). bytesHold k (getD p 0 0) x (getD b (at + 3) 0) (getD b (at + 4) 0)) (sym (byte-of b i 2 h (omega arith)))
-    ∙ ap (λ (x : ℕ). bytesHold k (getD p 0 0) (getD p 2 0) x (getD b (at + 4) 0)) (sym (byte-of b i 3 h (omega arith)))
-    ∙ ap (λ (x : ℕ). bytesHold k (getD p 0 0) (getD p 2 0) (getD p 3 0) x) (sym (byte-of b i 4 h (omega arith)))
+    let of : (j n : ℕ) → j < 30 → n ≡ 9 + 30 * i + j → getD b n 0 ≡ getD p j 0 =
+    λ j n l q. ap (λ (m : ℕ). getD b m 0) q ∙ sym (byte-of b i j h l) in
+    same-tests (of 0 at (omega arith) (omega arith)) (of 2 (at + 2) (omega arith) (omega arith)) (of 3 (at + 3) (omega arith) (omega arith)) (of 4 (at + 4) (omega arith) (omega arith)) k
     ∙ holds-when k (sessionAt p) (eqb (getD p 0 0) 1)
     ∙ ap (holdsKey k) (sym (slot-of b i))
 
--- the same test by test
-module _ (k : Key) (b : List ℕ) (i : ℕ) (h : i < 8) where
-  abbrev pub openAt : Bool
-  openAt = eqb (getD b (9 + 30 * i) 0) 1
+-- the tests of a key one after the other
+pub no-first : (a b c d : Bool) → a ≡ false → false ≡ (a && b && c && d)
+no-first a b c d e = rw e
 
-  abbrev pub saAt : Bool
-  saAt = eqb (getD b (9 + 30 * i + 2) 0) (k .sa .0)
+pub no-second : (a b c d : Bool) → a ≡ true → b ≡ false → false ≡ (a && b && c && d)
+no-second a b c d e f = rw (e, f)
 
-  abbrev pub restAt : Bool
-  restAt = eqb (getD b (9 + 30 * i + 3) 0) (k .da .0) && eqb (getD b (9 + 30 * i + 4) 0) (k .session .0)
-
-  grouped : (x y z w : Bool) → (x && (y && (z && w))) ≡ (x && y && z && w)
-  grouped true true z w = refl
-  grouped true false z w = refl
-  grouped false y z w = refl
-
-  held-by : (openAt && (saAt && restAt)) ≡ holdsKey k (getD (slotsAt b) i freeSlot)
-  held-by = grouped openAt saAt _ _ ∙ held k b i h
-
-  pub held-free : openAt ≡ false → false ≡ holdsKey k (getD (slotsAt b) i freeSlot)
-  held-free e = ap (λ (t : Bool). t && (saAt && restAt)) (sym e) ∙ held-by
-
-  module _ (o : openAt ≡ true) where
-    pub held-other : saAt ≡ false → false ≡ holdsKey k (getD (slotsAt b) i freeSlot)
-    held-other e = ap (λ (t : Bool). t && false) (sym o) ∙ ap (λ (t : Bool). openAt && (t && restAt)) (sym e) ∙ held-by
-
-    pub held-rest : saAt ≡ true → restAt ≡ holdsKey k (getD (slotsAt b) i freeSlot)
-    held-rest e = ap (λ (t : Bool). t && (true && restAt)) (sym o) ∙ ap (λ (t : Bool). openAt && (t && restAt)) (sym e) ∙ held-by
+pub both-hold : (a b c d : Bool) → a ≡ true → b ≡ true → (c && d) ≡ (a && b && c && d)
+both-hold a b c d e f = rw (e, f)

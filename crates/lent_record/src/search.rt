@@ -1,10 +1,11 @@
 // Searches over the slots in a record's bytes (01, "Announcement" and "Segment").
 ghost use mathlib.Core.Path.{_≡_};
-ghost use Prim.Native.Nat.{_≤_, _<_};
+ghost use Prim.Native.Nat.{_+_, _≤_, _<_};
 ghost use lib.ListN.{length, getD, drop};
-ghost use Rattle.slots.specs.Slots.{freeSlot, isFree, holdsKey, firstFree, keyPlace, Within};
+ghost use Rattle.slots.specs.Slots.{freeSlot, isFree, firstFree, keyPlace, Within};
 ghost use Rattle.slots.specs.Bounds.{anyHolds};
 ghost use Rattle.record_bytes.specs.Layout.{slotsAt};
+ghost use Rattle.lent_record.specs.Held.{keyOpenAt};
 use record_bytes::layout::HEAD_BYTES;
 use record_bytes::slot::SLOT_BYTES;
 use record_bytes::slot::slot_at;
@@ -21,12 +22,11 @@ fn is_free(bytes: &[u8], i: usize) -> bool
     bytes[HEAD_BYTES + SLOT_BYTES * i] != 1
 }
 
-// Whether slot i has the key open.
-pub fn holds_key(bytes: &[u8], i: usize, k: Key) -> bool
-    requires { ⌜ (length (now bytes) ≡ 249) × (i < 8) ⌝ }
-    ensures { λ r. ⌜ r ≡ holdsKey k (getD (slotsAt (now (bytes .entry))) i freeSlot) ⌝ }
+// Whether the slot that starts at a place has the key open.
+fn holds_key(bytes: &[u8], at: usize, k: Key) -> bool
+    requires { ⌜ at + 4 < length (now bytes) ⌝ }
+    ensures { λ r. ⌜ r ≡ keyOpenAt k (now (bytes .entry)) at ⌝ }
 {
-    let at = HEAD_BYTES + SLOT_BYTES * i;
     if bytes[at] != 1 {
         return false;
     }
@@ -42,11 +42,13 @@ pub fn any_holds(bytes: &[u8], from: usize, k: Key) -> bool
     ensures { λ r. ⌜ r ≡ anyHolds k (drop from (slotsAt (now (bytes .entry)))) ⌝ }
 {
     let mut j = from;
+    let mut at = HEAD_BYTES + SLOT_BYTES * from;
     while j < SLOTS {
-        if holds_key(bytes, j, k) {
+        if holds_key(bytes, at, k) {
             return true;
         }
         j = j + 1;
+        at = at + SLOT_BYTES;
     }
     false
 }
@@ -79,7 +81,7 @@ pub fn find_key(bytes: &[u8], k: Key) -> Found
         if i == SLOTS {
             break Found::Nothing;
         }
-        if holds_key(bytes, i, k) {
+        if holds_key(bytes, HEAD_BYTES + SLOT_BYTES * i, k) {
             break Found::At(i);
         }
         i = i + 1;

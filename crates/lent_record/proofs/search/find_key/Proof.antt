@@ -7,7 +7,7 @@ use Rattle.laws.specs.Choice.{then, else}
 use Rattle.laws.specs.Turn.{turn, end}
 use Rattle.slots.specs.Slots.{freeSlot, holdsKey, firstAt, keyPlace}
 use Rattle.record_bytes.specs.Layout.{slotsAt}
-use Rattle.lent_record.specs.Held.{length-slots}
+use Rattle.lent_record.specs.Held.{length-slots, held}
 use borrow.Author.Needs.{needs}
 use Rattle.lent_record.proofs.search.find_key.Statement.{statement}
 use Rattle.lent_record.proofs.search.find_key.Tie as tie
@@ -20,6 +20,12 @@ abbrev μ-loop : tie.MeasureT-loop
 
 loop-holds : tie.Need-loop-holds Inv-loop μ-loop
 loop-holds c = (search needs, search needs, refl)
+
+mul-holds-key : tie.Need-mul-holds-key Inv-loop μ-loop
+mul-holds-key c = search needs
+
+add-holds-key : tie.Need-add-holds-key Inv-loop μ-loop
+add-holds-key c = search needs
 
 holds-key-requires : tie.Need-holds-key-requires Inv-loop μ-loop
 holds-key-requires c κs = search needs
@@ -37,7 +43,7 @@ loop-again c =
     let b = now (a .bytes) in (
       search needs,
       search needs,
-      else _ _ _ _ (sym (c .before .holds-key .ensures) ∙ c .if2 .left) refl
+      else _ _ _ _ (sym (c .before .holds-key .ensures ∙ held (a .k) b (at .i) _ (omega arith) refl) ∙ c .if2 .left) refl
           ∙ sym (turn (firstAt (holdsKey (a .k)) (at .i)) (slotsAt b) (at .i) freeSlot (omega (arith, length-slots b)))
           ∙ at .inv .2,
     )
@@ -54,7 +60,7 @@ returns-2 c =
     let a = c .before .before .before .before .before .args in
     let at = c .before .before .before .loop in
     let b = now (a .bytes) in (
-      then _ _ _ _ (sym (c .before .holds-key .ensures) ∙ c .if2 .taken) refl
+      then _ _ _ _ (sym (c .before .holds-key .ensures ∙ held (a .k) b (at .i) _ (omega arith) refl) ∙ c .if2 .taken) refl
           ∙ sym (turn (firstAt (holdsKey (a .k)) (at .i)) (slotsAt b) (at .i) freeSlot (omega (arith, length-slots b)))
           ∙ at .inv .2,
       search needs,
@@ -67,6 +73,8 @@ find-key-spec =
     Inv-loop
     μ-loop
     loop-holds
+    mul-holds-key
+    add-holds-key
     holds-key-requires
     add-i
     loop-less
