@@ -1,17 +1,17 @@
 -- An answer put into its buffer.
-use Prim.Native.Nat.{ℕ, _+_, _-_, _≤_, _<_}
+use Prim.Native.Nat.{ℕ, _+_, _-_, _≤_}
 use native.Mathlib.Omega.{arith}
-use mathlib.Core.Path.{_≡_, refl, sym, ap, _∙_}
-use mathlib.Core.List.{List, [], _∷_, _++_, append-assoc, append-nil}
-use lib.ListN.{length, take, drop, drop-of-length-le}
+use mathlib.Core.Path.{_≡_, ap, _∙_}
+use mathlib.Core.List.{List, _++_, append-assoc, append-nil}
+use lib.ListN.{length, take, drop-of-length-le}
 use lib.Seq.{paste, take-paste, length-paste, take-all}
 use Rattle.transport.specs.declared.response.Response.{Response}
-use Rattle.transport.specs.declared.response.Response.the-variants.{Cts, Eoma, Abort}
 use Rattle.transport.specs.Responses.{responseBytes, responseId}
 use Rattle.receiver.specs.declared.answer.Answer.{Answer}
 use Rattle.receiver.specs.declared.answer.Sending.{Sending}
 use Rattle.receiver.specs.Answers.{answerSends, sendingOf}
 use Rattle.answer_bytes.specs.declared.answer.Fields.{Fields}
+use Rattle.answer_bytes.specs.Sizes.{length-response}
 use Rattle.answer_bytes.specs.Answers.{fieldsOf, fieldsBytes, sentHead, responseSent, sentBytes, answerBytes}
 
 -- a copy that reaches the end
@@ -21,12 +21,6 @@ paste-end d at s n e f =
     ap (λ (l : List ℕ). take at d ++ take n s ++ l) (drop-of-length-le d w)
     ∙ append-nil (take at d ++ take n s)
     ∙ ap (λ (l : List ℕ). take at d ++ l) (take-all n s (omega arith))
-
-length-response : (f : Response) → length (responseBytes f) ≡ 12
-unfolding responseBytes
-length-response (Cts f) = refl
-length-response (Eoma f) = refl
-length-response (Abort f) = refl
 
 pub response-put : (f : Response) (d o₁ o₂ h b : List ℕ) (id : ℕ) → length d ≡ 36 → id ≡ responseId f → h ≡ sentHead id → b ≡ responseBytes f
     → o₁ ≡ paste d 19 h 5 → o₂ ≡ paste o₁ 24 b 12 → o₂ ≡ take 19 d ++ responseSent f

@@ -1,1 +1,4 @@
 pub mod Answers
+pub mod Sizes
+pub mod Ends
+pub mod EndLaws

@@ -54,3 +54,32 @@ held k b i h =
     ∙ ap (λ (x : ℕ). bytesHold k (getD p 0 0) (getD p 2 0) (getD p 3 0) x) (sym (byte-of b i 4 h (omega arith)))
     ∙ holds-when k (sessionAt p) (eqb (getD p 0 0) 1)
     ∙ ap (holdsKey k) (sym (slot-of b i))
+
+-- the same test by test
+module _ (k : Key) (b : List ℕ) (i : ℕ) (h : i < 8) where
+  abbrev pub openAt : Bool
+  openAt = eqb (getD b (9 + 30 * i) 0) 1
+
+  abbrev pub saAt : Bool
+  saAt = eqb (getD b (9 + 30 * i + 2) 0) (k .sa .0)
+
+  abbrev pub restAt : Bool
+  restAt = eqb (getD b (9 + 30 * i + 3) 0) (k .da .0) && eqb (getD b (9 + 30 * i + 4) 0) (k .session .0)
+
+  grouped : (x y z w : Bool) → (x && (y && (z && w))) ≡ (x && y && z && w)
+  grouped true true z w = refl
+  grouped true false z w = refl
+  grouped false y z w = refl
+
+  held-by : (openAt && (saAt && restAt)) ≡ holdsKey k (getD (slotsAt b) i freeSlot)
+  held-by = grouped openAt saAt _ _ ∙ held k b i h
+
+  pub held-free : openAt ≡ false → false ≡ holdsKey k (getD (slotsAt b) i freeSlot)
+  held-free e = ap (λ (t : Bool). t && (saAt && restAt)) (sym e) ∙ held-by
+
+  module _ (o : openAt ≡ true) where
+    pub held-other : saAt ≡ false → false ≡ holdsKey k (getD (slotsAt b) i freeSlot)
+    held-other e = ap (λ (t : Bool). t && false) (sym o) ∙ ap (λ (t : Bool). openAt && (t && restAt)) (sym e) ∙ held-by
+
+    pub held-rest : saAt ≡ true → restAt ≡ holdsKey k (getD (slotsAt b) i freeSlot)
+    held-rest e = ap (λ (t : Bool). t && (true && restAt)) (sym o) ∙ ap (λ (t : Bool). openAt && (t && restAt)) (sym e) ∙ held-by

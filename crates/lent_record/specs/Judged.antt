@@ -7,7 +7,7 @@ use mathlib.Core.List.{List, [], _∷_, map}
 use lib.Dec.{eqb}
 use lib.ListN.{length, getD, take, drop}
 use borrow.Author.Tests.{eqb-true}
-use Rattle.laws.specs.Turn.{turn}
+use Rattle.laws.specs.Turn.{turn, end}
 use Rattle.frame.specs.declared.Address.{Address}
 use Rattle.session.specs.declared.Session.{Session}
 use Rattle.slots.specs.declared.Slot.{Slot}
@@ -58,9 +58,16 @@ pieces-ready own (p ∷ ps) =
     ap (λ (t : Bool). (eqb n 0 || (codesOk n k && sessionOk own (sessionAt p) && not (anyHolds (sessionAt p .key) (map slotAt ps)))) && t) (pieces-ready own ps)
     ∙ by-code own (sessionAt p) (map slotAt ps) (eqb n 0) (eqb n 1) (eqb k 1 || eqb k 2) (codesAll ps) (slotsOk own (map slotAt ps)) (two-codes n)
 
--- what is left to judge from slot i on
-pub ready-turn : (own : Address) (b : List ℕ) (i : ℕ) → i < 8
-    → piecesReady own (drop i (piecesOf b)) ≡ ((eqb (getD b (9 + 30 * i) 0) 0 || openReady own (getD (piecesOf b) i []) (drop (i + 1) (piecesOf b))) && piecesReady own (drop (i + 1) (piecesOf b)))
+-- slot i, and those behind it
+abbrev pub readyAt : Address → List ℕ → ℕ → Bool
+readyAt own b i =
+    eqb (getD b (9 + 30 * i) 0) 0 || openReady own (getD (piecesOf b) i []) (drop (i + 1) (piecesOf b))
+
+abbrev pub twoReady : Address → List ℕ → ℕ → Bool
+twoReady own b i = readyAt own b i && readyAt own b (i + 1)
+
+ready-turn : (own : Address) (b : List ℕ) (i : ℕ) → i < 8
+    → piecesReady own (drop i (piecesOf b)) ≡ (readyAt own b i && piecesReady own (drop (i + 1) (piecesOf b)))
 unfolding piecesReady
 ready-turn own b i h =
     let at : ℕ = 9 + 30 * i in
@@ -68,6 +75,49 @@ ready-turn own b i h =
     let e : at + 0 ≡ at = omega arith in
     turn (piecesReady own) (piecesOf b) i [] (omega (arith, length-pieces 8 (drop 9 b)))
     ∙ ap (λ (x : ℕ). (eqb x 0 || openReady own (getD (piecesOf b) i []) ps) && piecesReady own ps) (byte-of b i 0 h (omega arith) ∙ ap (λ (m : ℕ). getD b m 0) e)
+
+and-true : (a r : Bool) → r ≡ true → a ≡ (a && r)
+and-true true r e = sym e
+and-true false r e = refl
+
+and-assoc : (a b c : Bool) → ((a && b) && c) ≡ (a && (b && c))
+and-assoc true b c = refl
+and-assoc false b c = refl
+
+pub and-same : {a b x y : Bool} → a ≡ x → b ≡ y → (a && b) ≡ (x && y)
+and-same p q = rw (p, q)
+
+and-four : (a b c d r : Bool) → (a && (b && (c && (d && r)))) ≡ ((a && b && c && d) && r)
+and-four true true true d r = refl
+and-four true true false d r = refl
+and-four true false c d r = refl
+and-four false b c d r = refl
+
+two-turn : (own : Address) (b : List ℕ) (i : ℕ) → i < 7
+    → piecesReady own (drop i (piecesOf b)) ≡ (twoReady own b i && piecesReady own (drop (i + 2) (piecesOf b)))
+two-turn own b i h =
+    let A : ℕ → Bool = readyAt own b in
+    let R : ℕ → Bool = λ (n : ℕ). piecesReady own (drop n (piecesOf b)) in
+    let e : i + 1 + 1 ≡ i + 2 = omega arith in
+    ready-turn own b i (omega arith)
+    ∙ ap (λ (t : Bool). A i && t) (ready-turn own b (i + 1) (omega arith) ∙ ap (λ (n : ℕ). A (i + 1) && R n) e)
+    ∙ sym (and-assoc (A i) (A (i + 1)) (R (i + 2)))
+
+-- all eight
+pub eight-ready : (own : Address) (b : List ℕ) (x y z w : Bool) → x ≡ twoReady own b 0 → y ≡ twoReady own b 2 → z ≡ twoReady own b 4 → w ≡ twoReady own b 6
+    → (x && y && z && w) ≡ piecesReady own (piecesOf b)
+unfolding piecesReady
+eight-ready own b x y z w ex ey ez ew =
+    let T : ℕ → Bool = twoReady own b in
+    let R : ℕ → Bool = λ (n : ℕ). piecesReady own (drop n (piecesOf b)) in
+    let none : R 8 ≡ true = end (piecesReady own) (piecesOf b) 8 (omega (arith, length-pieces 8 (drop 9 b))) in
+    and-same (and-same (and-same ex ey) ez) ew
+    ∙ and-true (T 0 && T 2 && T 4 && T 6) (R 8) none
+    ∙ sym (and-four (T 0) (T 2) (T 4) (T 6) (R 8))
+    ∙ ap (λ (t : Bool). T 0 && (T 2 && (T 4 && t))) (sym (two-turn own b 6 (omega arith)))
+    ∙ ap (λ (t : Bool). T 0 && (T 2 && t)) (sym (two-turn own b 4 (omega arith)))
+    ∙ ap (λ (t : Bool). T 0 && t) (sym (two-turn own b 2 (omega arith)))
+    ∙ sym (two-turn own b 0 (omega arith))
 
 -- ---- slot i by what was read of it: its two codes, its session, and whether its key is open behind it
 

@@ -5,7 +5,7 @@ ghost use mathlib.Core.List.{[]};
 ghost use lib.ListN.{length, getD, drop};
 ghost use Rattle.record_bytes.specs.Layout.{piecesOf};
 ghost use Rattle.lent_record.specs.Ready.{readyIn};
-ghost use Rattle.lent_record.specs.Judged.{openReady, piecesReady};
+ghost use Rattle.lent_record.specs.Judged.{openReady, twoReady, piecesReady};
 use super::search::any_holds;
 use frame::Address;
 use receiver::Receiver;
@@ -15,7 +15,6 @@ use record_bytes::slot::SLOT_BYTES;
 use record_bytes::slot::codes_ok;
 use record_bytes::slot::session_at;
 use record_bytes::word::word_at;
-use slots::SLOTS;
 use slots::bounds::opening_ok;
 use slots::bounds::session_ok;
 
@@ -44,21 +43,32 @@ fn open_ready(bytes: &[u8], i: usize, own: Address) -> bool
     !any_holds(bytes, i + 1, s.key)
 }
 
-// A free slot costs one byte's test.
+// Slots i and i + 1: a free one costs one byte's test.
+fn two_ready(bytes: &[u8], i: usize, own: Address) -> bool
+    requires { ⌜ (length (now bytes) ≡ 249) × (i < 7) ⌝ }
+    ensures { λ r. ⌜ r ≡ twoReady own (now (bytes .entry)) i ⌝ }
+{
+    let at = HEAD_BYTES + SLOT_BYTES * i;
+    if bytes[at] != 0 {
+        if !open_ready(bytes, i, own) {
+            return false;
+        }
+    }
+    if bytes[at + SLOT_BYTES] == 0 {
+        return true;
+    }
+    open_ready(bytes, i + 1, own)
+}
+
+// All eight, by twos and not in a loop: the place of each slot is then known where this is compiled.
 fn slots_ready(bytes: &[u8], own: Address) -> bool
     requires { ⌜ length (now bytes) ≡ 249 ⌝ }
     ensures { λ r. ⌜ r ≡ piecesReady own (piecesOf (now (bytes .entry))) ⌝ }
 {
-    let mut i: usize = 0;
-    while i < SLOTS {
-        if bytes[HEAD_BYTES + SLOT_BYTES * i] != 0 {
-            if !open_ready(bytes, i, own) {
-                return false;
-            }
-        }
-        i = i + 1;
-    }
-    true
+    two_ready(bytes, 0, own)
+        & two_ready(bytes, 2, own)
+        & two_ready(bytes, 4, own)
+        & two_ready(bytes, 6, own)
 }
 
 // Whether the buffer is a record in bounds, and a store of so many bytes has the right length.

@@ -27,10 +27,13 @@ pub fn holds_key(bytes: &[u8], i: usize, k: Key) -> bool
     ensures { λ r. ⌜ r ≡ holdsKey k (getD (slotsAt (now (bytes .entry))) i freeSlot) ⌝ }
 {
     let at = HEAD_BYTES + SLOT_BYTES * i;
-    (bytes[at] == 1)
-        & (bytes[at + 2] == k.sa.0)
-        & (bytes[at + 3] == k.da.0)
-        & (bytes[at + 4] == k.session.0)
+    if bytes[at] != 1 {
+        return false;
+    }
+    if bytes[at + 2] != k.sa.0 {
+        return false;
+    }
+    (bytes[at + 3] == k.da.0) & (bytes[at + 4] == k.session.0)
 }
 
 // Whether a slot from the one given on has the key open.

@@ -1,1 +1,4 @@
 pub mod Exports
+pub mod Counts
+pub mod Messages
+pub mod Readings

@@ -1,68 +1,60 @@
-use Prim.Native.Nat.{ℕ, _-_, _≤_}
-use mathlib.Core.Path.{_≡_, refl, ap, _∙_}
-use lib.ListN.{length, length-set}
-use lib.Seq.{paste, paste-zero}
-use denote.Ref.{now}
 use native.Mathlib.Omega.{arith}
-use Rattle.transport.specs.Segments.{dataAt}
-use Rattle.laws.specs.Copy.{copy-turn}
+use lib.ListN.{drop, replicate, length-drop}
+use denote.Ref.{now}
+use Rattle.slots.proofs.Copies.{copied-twice}
 use borrow.Author.Needs.{needs}
 use Rattle.slots.proofs.store.copy_in.Statement.{statement}
 use Rattle.slots.proofs.store.copy_in.Tie as tie
+use Rattle.slots.proofs.store.copy_in.Reads as reads
+use Rattle.slots.proofs.store.copy_in.Lts as lts
+use Rattle.slots.proofs.store.copy.Reads as copy-reads
 
-abbrev Inv-loop : tie.InvT-loop
-Inv-loop part₀ at bytes n j₀ part j = (part ≡ paste part₀ at (dataAt bytes) j) × (j ≤ n) × (length part ≡ length part₀)
+-- src/store.rt:32:14
+slice-aggregate-copy : tie.Need-slice-aggregate-copy
+slice-aggregate-copy c = search needs
 
-abbrev μ-loop : tie.MeasureT-loop
-μ-loop part₀ at bytes n j₀ part j = n - j
+-- src/store.rt:32:9
+copy-requires : tie.Need-copy-requires
+copy-requires c κs = search needs
 
-loop-holds : tie.Need-loop-holds Inv-loop μ-loop
-loop-holds c = (paste-zero (now (c .args .part)) (c .args .at) (dataAt (now (c .args .bytes))), search needs, refl)
+-- src/store.rt:33:24
+slice-aggregate-copy-2 : tie.Need-slice-aggregate-copy-2
+slice-aggregate-copy-2 c = search needs
 
-add-part : tie.Need-add-part Inv-loop μ-loop
-add-part c = search needs
+-- src/store.rt:33:9
+copy-requires-2 : tie.Need-copy-requires-2
+copy-requires-2 c κs = search needs
 
-shared-slice-read-part : tie.Need-shared-slice-read-part Inv-loop μ-loop
-shared-slice-read-part c = search needs
-
-add-part-2 : tie.Need-add-part-2 Inv-loop μ-loop
-add-part-2 c = search needs
-
-slice-write-part : tie.Need-slice-write-part Inv-loop μ-loop
-slice-write-part c = search needs
-
-add-j : tie.Need-add-j Inv-loop μ-loop
-add-j c = search needs
-
-loop-less : tie.Need-loop-less Inv-loop μ-loop
-loop-less c = search needs
-
-loop-again : tie.Need-loop-again Inv-loop μ-loop
-loop-again c =
-    let a = c .before .before .before .args in
-    (copy-turn (c .before .before .loop .part) (now (a .part)) (a .at) (now (a .bytes)) 4 (c .before .before .loop .j) (c .before .before .loop .inv .0) (omega arith) (omega arith), search needs, simp length-set (c .before .before .loop .inv .2))
-
-same-length : tie.Need-same-length Inv-loop μ-loop
+-- src/store.rt:34:9
+same-length : tie.Need-same-length
 same-length c = search needs
 
-returns : tie.Need-returns Inv-loop μ-loop
-returns c =
-    let e : c .before .loop .j ≡ c .before .before .args .n = omega arith in
-    c .before .loop .inv .0 ∙ ap (λ (m : ℕ). paste (now (c .before .before .args .part)) (c .before .before .args .at) (dataAt (now (c .before .before .args .bytes))) m) e
+-- src/store.rt:34:9
+returns : tie.Need-returns
+returns c = copied-twice _ (now (c .before .before .before .before .before .before .before .before .before .before .before .args .part)) (replicate 60 0) (c .before .before .before .before .before .before .copy .last .0) (drop 4 (now (c .before .before .before .before .before .before .before .before .before .before .before .args .bytes))) (c .before .before .before .before .before .before .before .before .before .before .before .args .at) (c .before .before .before .before .before .before .before .before .before .before .before .args .n) 60 (c .before .before .before .before .before .before .before .before .if1 .taken) (simp length-drop (omega arith)) (c .before .before .before .before .before .before .copy .ensures) (c .before .before .copy2 .ensures)
+
+-- src/store.rt:36:5
+copy-requires-3 : tie.Need-copy-requires-3
+copy-requires-3 c κs = search needs
+
+-- src/store.rt:26:1
+same-length-2 : tie.Need-same-length-2
+same-length-2 c = search needs
+
+-- src/store.rt:26:1
+returns-2 : tie.Need-returns-2
+returns-2 c = search needs
 
 pub copy-in-spec : {M : Type 1} → statement M
 copy-in-spec =
     tie.close
     (tie.spec
-    Inv-loop
-    μ-loop
-    loop-holds
-    add-part
-    shared-slice-read-part
-    add-part-2
-    slice-write-part
-    add-j
-    loop-less
-    loop-again
+    slice-aggregate-copy
+    copy-requires
+    slice-aggregate-copy-2
+    copy-requires-2
     same-length
-    returns)
+    returns
+    copy-requires-3
+    same-length-2
+    returns-2)

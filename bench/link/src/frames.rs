@@ -1,0 +1,207 @@
+//! The frames that both sides are given. They are the same in every run.
+
+use crate::plain;
+
+pub const OWN: u8 = 33;
+pub const LIMIT: u32 = 1250;
+/// The largest message: 69 segments.
+pub const TOTAL: u32 = 4096;
+const SEGMENTS: u32 = TOTAL.div_ceil(60);
+
+#[derive(Clone, Copy)]
+pub struct Frame {
+    pub id: u32,
+    length: usize,
+    bytes: [u8; 64],
+}
+
+impl Frame {
+    pub fn new(id: u32, bytes: &[u8]) -> Self {
+        let mut frame = Frame {
+            id,
+            length: bytes.len(),
+            bytes: [0; 64],
+        };
+        frame.bytes[..bytes.len()].copy_from_slice(bytes);
+        frame
+    }
+
+    #[inline(always)]
+    pub fn bytes(&self) -> &[u8] {
+        &self.bytes[..self.length]
+    }
+}
+
+/// Numbers that look random.
+pub struct Dice(pub u64);
+
+impl Dice {
+    pub fn roll(&mut self, sides: usize) -> usize {
+        self.0 = self.0.wrapping_mul(6364136223846793005).wrapping_add(1442695040888963407);
+        (self.0 >> 33) as usize % sides
+    }
+}
+
+/// Groups to pack.
+pub struct Request {
+    pub pgns: Vec<u32>,
+    pub lengths: Vec<u8>,
+    pub data: Vec<u8>,
+}
+
+/// So many groups with so many bytes of data in all.
+fn request(groups: usize, bytes: usize, dice: &mut Dice) -> Request {
+    let mut lengths = vec![0; groups];
+    for _ in 0..bytes {
+        lengths[dice.roll(groups)] += 1;
+    }
+    Request {
+        pgns: (0..groups)
+            .map(|_| match dice.roll(2) {
+                0 => (dice.roll(240) as u32) << 8,
+                _ => 0xf000 + dice.roll(4096) as u32,
+            })
+            .collect(),
+        lengths,
+        data: (0..bytes).map(|_| dice.roll(256) as u8).collect(),
+    }
+}
+
+/// Sixteen requests of so many groups: half of them fill a frame, half leave room for padding.
+pub fn requests(groups: usize) -> Vec<Request> {
+    let mut dice = Dice(groups as u64);
+    let room = 64 - 4 * groups;
+    (0..16)
+        .map(|i| {
+            let bytes = if i % 2 == 0 { room } else { dice.roll(room) };
+            request(groups, bytes, &mut dice)
+        })
+        .collect()
+}
+
+/// The requests packed, as Multi-PG frames from the camera.
+pub fn packed(requests: &[Request]) -> Vec<Frame> {
+    requests
+        .iter()
+        .map(|r| {
+            let mut out = [0; 64];
+            let length = plain::pack(&r.pgns, &r.lengths, &r.data, &mut out).expect("a good request");
+            Frame::new(0x1825_0080 | u32::from(OWN) << 8, &out[..length])
+        })
+        .collect()
+}
+
+/// A stream of Multi-PG frames: 1, 4 and 15 groups in turn, every fourth to all.
+pub fn stream() -> Vec<Frame> {
+    let kinds = [1, 4, 15].map(|n| packed(&requests(n)));
+    (0..48)
+        .map(|i| {
+            let mut frame = kinds[i % 3][i / 3];
+            if i % 4 == 3 {
+                frame.id |= 0xff00;
+            }
+            frame
+        })
+        .collect()
+}
+
+/// A sender of one transfer.
+#[derive(Clone, Copy)]
+pub struct Sender {
+    sa: u8,
+    number: u8,
+    is_bam: bool,
+    pgn: u32,
+}
+
+impl Sender {
+    /// The n-th of eight: RTS and BAM in turn, some of one address.
+    pub fn nth(n: u8) -> Self {
+        Sender {
+            sa: 0x80 + n / 3,
+            number: n,
+            is_bam: n % 2 == 1,
+            pgn: 0xfe00 + u32::from(n),
+        }
+    }
+
+    fn id(&self, pf: u32) -> u32 {
+        let da = if self.is_bam { 255 } else { OWN };
+        7 << 26 | pf << 16 | u32::from(da) << 8 | u32::from(self.sa)
+    }
+
+    fn control(&self, control: u8, max: u8) -> Frame {
+        let mut bytes = [0; 12];
+        bytes[0] = self.number << 4 | control;
+        bytes[1..4].copy_from_slice(&TOTAL.to_le_bytes()[..3]);
+        bytes[4..7].copy_from_slice(&SEGMENTS.to_le_bytes()[..3]);
+        bytes[7] = max;
+        bytes[9..12].copy_from_slice(&self.pgn.to_le_bytes()[..3]);
+        Frame::new(self.id(77), &bytes)
+    }
+
+    pub fn announcement(&self) -> Frame {
+        self.control(if self.is_bam { 4 } else { 0 }, 255)
+    }
+
+    fn segment(&self, n: u32) -> Frame {
+        let mut dice = Dice(u64::from(self.number) << 32 | u64::from(n));
+        let mut bytes = [0; 64];
+        bytes[0] = self.number << 4;
+        bytes[1..4].copy_from_slice(&n.to_le_bytes()[..3]);
+        bytes[4..].fill_with(|| dice.roll(256) as u8);
+        let due = (TOTAL - 60 * (n - 1)).min(60) as usize;
+        let length = [20, 64][usize::from(due > 16)];
+        Frame::new(self.id(78), &bytes[..length])
+    }
+
+    fn status(&self) -> Frame {
+        self.control(2, 255)
+    }
+}
+
+/// Whole transfers, their segments in turn.
+pub fn transfers(senders: &[Sender]) -> Vec<Frame> {
+    let mut frames: Vec<Frame> = senders.iter().map(Sender::announcement).collect();
+    for n in 1..=SEGMENTS {
+        frames.extend(senders.iter().map(|s| s.segment(n)));
+    }
+    frames.extend(senders.iter().map(Sender::status));
+    frames
+}
+
+/// Frames of all kinds, most of them damaged or out of place, to compare both sides on.
+pub fn noise(count: usize, seed: u64) -> Vec<Frame> {
+    const LENGTHS: [usize; 18] = [0, 1, 2, 3, 4, 5, 6, 7, 8, 9, 12, 16, 20, 24, 32, 48, 63, 64];
+    let mut dice = Dice(seed);
+    let senders: Vec<Sender> = (0..10).map(Sender::nth).collect();
+    let stream = stream();
+    let mut next = [0; 10];
+    (0..count)
+        .map(|_| {
+            let n = dice.roll(10);
+            let s = &senders[n];
+            let mut frame = match dice.roll(10) {
+                0 => {
+                    next[n] = 0;
+                    s.announcement()
+                }
+                1 => s.status(),
+                2 => s.control(15, 0),
+                3 => stream[dice.roll(stream.len())],
+                _ => {
+                    next[n] = next[n] % SEGMENTS + 1;
+                    s.segment(next[n])
+                }
+            };
+            match dice.roll(60) {
+                0 => frame.id ^= 1 << dice.roll(32),
+                1 => frame.length = LENGTHS[dice.roll(LENGTHS.len())],
+                2 => frame.bytes[dice.roll(12)] ^= 1 << dice.roll(8),
+                3 => frame.bytes[dice.roll(64)] = dice.roll(256) as u8,
+                _ => {}
+            }
+            frame
+        })
+        .collect()
+}

@@ -1,0 +1,338 @@
+//! Ours beside plain Rust, on the same frames in one process. See docs/SPEED.md; bench/speed runs it.
+//!
+//!     link equal                     compares the answers of both sides
+//!     link time                      case, operations' frames, ns an operation: ours, checked, unchecked
+//!     link cases                     the names of the cases
+//!     link run CASE SIDE ROUNDS      one side of one case, for counting its instructions
+
+// Until the archive exports all.
+#![cfg_attr(not(all(feature = "groups", feature = "pack")), allow(dead_code))]
+
+mod boundary;
+mod equal;
+mod frames;
+mod plain;
+
+use boundary::{Ours, STORE_BYTES};
+use frames::{Frame, Sender, LIMIT, OWN};
+use plain::receiver::{Answer, Receiver};
+use std::hint::black_box;
+use std::time::Instant;
+
+const ROUNDS: usize = 100;
+/// The least time of a sample.
+const SAMPLE_NS: u128 = 100_000;
+
+/// One side of a case: runs the operation so many times.
+type Side = Box<dyn FnMut(usize)>;
+
+struct Case {
+    name: &'static str,
+    /// Calls of one operation.
+    calls: usize,
+    ours: Side,
+    /// Plain Rust that does all that is promised: checks the whole record, judges the whole frame before it writes.
+    checked: Side,
+    /// Plain Rust that trusts its record, or writes groups as it reads them; none for packing.
+    unchecked: Option<Side>,
+}
+
+/// Uses a result as a caller would. A black box over the whole of it would read back in one piece what was written in two, and wait.
+#[cfg(any(feature = "groups", feature = "pack"))]
+#[inline(always)]
+fn consume(result: Result<usize, plain::Refusal>) {
+    match result {
+        Ok(count) => black_box(count),
+        Err(refusal) => black_box(usize::from(refusal)),
+    };
+}
+
+fn ours_frames(open: &[Sender], frames: &[Frame]) -> Side {
+    let mut ours = Ours::open(OWN, LIMIT, 7);
+    for s in open {
+        let frame = s.announcement();
+        assert_eq!(ours.frame(frame.id, frame.bytes()), 0);
+    }
+    let frames = frames.to_vec();
+    Box::new(move |rounds| {
+        for _ in 0..rounds {
+            for frame in black_box(&frames[..]) {
+                black_box(ours.frame(frame.id, frame.bytes()));
+                black_box(&ours.answer);
+            }
+        }
+    })
+}
+
+fn opened<const CHECKED: bool>(open: &[Sender], store: &mut [u8]) -> Receiver<CHECKED> {
+    let mut receiver = Receiver::open(OWN, LIMIT, 7);
+    for s in open {
+        let frame = s.announcement();
+        let answer = receiver.frame(frame.id, frame.bytes(), store);
+        assert!(matches!(answer, Answer::Opened(_) | Answer::Grant { .. }));
+    }
+    receiver
+}
+
+fn plain_frames<const CHECKED: bool>(open: &[Sender], frames: &[Frame]) -> Side {
+    let mut store = vec![0; STORE_BYTES];
+    let mut receiver = opened::<CHECKED>(open, &mut store);
+    let frames = frames.to_vec();
+    Box::new(move |rounds| {
+        for _ in 0..rounds {
+            for frame in black_box(&frames[..]) {
+                black_box(&receiver.frame(frame.id, frame.bytes(), &mut store));
+            }
+        }
+    })
+}
+
+/// Frames through the frame call alone.
+fn frame_case(name: &'static str, open: &[Sender], frames: &[Frame]) -> Case {
+    Case {
+        name,
+        calls: frames.len(),
+        ours: ours_frames(open, frames),
+        checked: plain_frames::<true>(open, frames),
+        unchecked: Some(plain_frames::<false>(open, frames)),
+    }
+}
+
+#[cfg(feature = "groups")]
+mod with_groups {
+    use super::*;
+    use boundary::GROUPS_WORDS;
+    use plain::{Group, MOST_GROUPS};
+
+    fn ours_groups(frames: &[Frame]) -> Side {
+        let frames = frames.to_vec();
+        let mut words = [0; GROUPS_WORDS];
+        Box::new(move |rounds| {
+            for _ in 0..rounds {
+                for frame in black_box(&frames[..]) {
+                    black_box(boundary::groups(frame.bytes(), &mut words));
+                    black_box(&words);
+                }
+            }
+        })
+    }
+
+    type Unpack = for<'a> fn(&'a [u8], &mut [Group<'a>; MOST_GROUPS]) -> Result<usize, plain::Refusal>;
+
+    fn plain_groups(frames: &[Frame], unpack: Unpack) -> Side {
+        let frames = frames.to_vec();
+        Box::new(move |rounds| {
+            let mut groups = [Group::default(); MOST_GROUPS];
+            for _ in 0..rounds {
+                for frame in black_box(&frames[..]) {
+                    consume(unpack(frame.bytes(), &mut groups));
+                    black_box(&groups);
+                }
+            }
+        })
+    }
+
+    /// Whole frames unpacked.
+    pub fn unpack_case(name: &'static str, frames: &[Frame]) -> Case {
+        Case {
+            name,
+            calls: frames.len(),
+            ours: ours_groups(frames),
+            checked: plain_groups(frames, plain::unpack),
+            unchecked: Some(plain_groups(frames, plain::unpack_as_read)),
+        }
+    }
+
+    fn ours_stream(open: &[Sender], frames: &[Frame]) -> Side {
+        let mut ours = Ours::open(OWN, LIMIT, 7);
+        for s in open {
+            let frame = s.announcement();
+            assert_eq!(ours.frame(frame.id, frame.bytes()), 0);
+        }
+        let frames = frames.to_vec();
+        let mut words = [0; GROUPS_WORDS];
+        Box::new(move |rounds| {
+            for _ in 0..rounds {
+                for frame in black_box(&frames[..]) {
+                    black_box(ours.frame(frame.id, frame.bytes()));
+                    black_box(&ours.answer);
+                    black_box(boundary::groups(frame.bytes(), &mut words));
+                    black_box(&words);
+                }
+            }
+        })
+    }
+
+    fn plain_stream<const CHECKED: bool>(open: &[Sender], frames: &[Frame]) -> Side {
+        let mut store = vec![0; STORE_BYTES];
+        let mut receiver = opened::<CHECKED>(open, &mut store);
+        let frames = frames.to_vec();
+        Box::new(move |rounds| {
+            for _ in 0..rounds {
+                for frame in black_box(&frames[..]) {
+                    if let Answer::Groups(groups) = receiver.frame(frame.id, frame.bytes(), &mut store) {
+                        for group in groups {
+                            black_box(&group);
+                        }
+                    }
+                }
+            }
+        })
+    }
+
+    /// Multi-PG frames through the frame call, and their groups.
+    pub fn stream_case(name: &'static str, open: &[Sender], frames: &[Frame]) -> Case {
+        Case {
+            name,
+            calls: frames.len(),
+            ours: ours_stream(open, frames),
+            checked: plain_stream::<true>(open, frames),
+            unchecked: Some(plain_stream::<false>(open, frames)),
+        }
+    }
+}
+
+#[cfg(feature = "pack")]
+fn pack_case(name: &'static str, groups: usize) -> Case {
+    let (ours, plain) = (frames::requests(groups), frames::requests(groups));
+    Case {
+        name,
+        calls: ours.len(),
+        ours: Box::new(move |rounds| {
+            let mut out = [0; 64];
+            for _ in 0..rounds {
+                for r in black_box(&ours[..]) {
+                    black_box(boundary::pack(&r.pgns, &r.lengths, &r.data, &mut out));
+                    black_box(&out);
+                }
+            }
+        }),
+        checked: Box::new(move |rounds| {
+            let mut out = [0; 64];
+            for _ in 0..rounds {
+                for r in black_box(&plain[..]) {
+                    consume(plain::pack(&r.pgns, &r.lengths, &r.data, &mut out));
+                    black_box(&out);
+                }
+            }
+        }),
+        unchecked: None,
+    }
+}
+
+fn cases() -> Vec<Case> {
+    let eight: Vec<Sender> = (0..8).map(Sender::nth).collect();
+    let stream = frames::stream();
+    let mut cases = Vec::new();
+    #[cfg(feature = "groups")]
+    for (name, n) in [("unpack-1", 1), ("unpack-4", 4), ("unpack-15", 15)] {
+        cases.push(with_groups::unpack_case(name, &frames::packed(&frames::requests(n))));
+    }
+    #[cfg(feature = "pack")]
+    for (name, n) in [("pack-1", 1), ("pack-4", 4), ("pack-15", 15)] {
+        cases.push(pack_case(name, n));
+    }
+    cases.push(frame_case("transfer-rts", &[], &frames::transfers(&eight[..1])));
+    cases.push(frame_case("transfers-8", &[], &frames::transfers(&eight)));
+    #[cfg(feature = "groups")]
+    {
+        cases.push(with_groups::stream_case("stream-0-open", &[], &stream));
+        cases.push(with_groups::stream_case("stream-4-open", &eight[..4], &stream));
+    }
+    cases.push(frame_case("judge-0-open", &[], &stream));
+    cases.push(frame_case("judge-4-open", &eight[..4], &stream));
+    cases
+}
+
+fn equal() {
+    let eight: Vec<Sender> = (0..8).map(Sender::nth).collect();
+    let noise = frames::noise(200_000, 6);
+    let lists = [
+        ("one transfer", frames::transfers(&eight[..1])),
+        ("eight transfers", frames::transfers(&eight)),
+        ("stream", frames::stream()),
+        ("noise", noise),
+    ];
+    for (name, frames) in &lists {
+        equal::compare::<true>(name, frames);
+        let seen = equal::compare::<false>(name, frames);
+        let seen: Vec<String> = (0..256).filter(|&n| seen[n] > 0).map(|n| format!("{n}: {}", seen[n])).collect();
+        eprintln!("{name}: {} frames equal; numbers {}", frames.len(), seen.join(", "));
+        #[cfg(feature = "groups")]
+        equal::compare_groups(name, frames);
+    }
+    for n in [1, 4, 15] {
+        let requests = frames::requests(n);
+        #[cfg(feature = "groups")]
+        equal::compare_groups("packed", &frames::packed(&requests));
+        #[cfg(feature = "pack")]
+        equal::compare_pack("requests", &requests);
+        assert!(frames::packed(&requests).len() == 16);
+    }
+}
+
+fn sample(side: &mut Side, repeat: usize) -> u128 {
+    let start = Instant::now();
+    side(repeat);
+    start.elapsed().as_nanos()
+}
+
+fn median(times: &mut [u128]) -> u128 {
+    times.sort_unstable();
+    (times[(times.len() - 1) / 2] + times[times.len() / 2]) / 2
+}
+
+fn time(case: Case) {
+    let Case {
+        name,
+        calls,
+        ours,
+        checked,
+        unchecked,
+    } = case;
+    let mut sides: Vec<Side> = [Some(ours), Some(checked), unchecked].into_iter().flatten().collect();
+    let mut repeat = 1;
+    while sides.iter_mut().any(|side| sample(side, repeat) < SAMPLE_NS) {
+        repeat *= 2;
+    }
+    let mut times = vec![Vec::with_capacity(ROUNDS); sides.len()];
+    for round in 0..ROUNDS {
+        for turn in 0..sides.len() {
+            let side = (round + turn) % sides.len();
+            times[side].push(sample(&mut sides[side], repeat));
+        }
+    }
+    print!("{name}\t{calls}");
+    for times in &mut times {
+        print!("\t{:.2}", median(times) as f64 / (repeat * calls) as f64);
+    }
+    println!();
+}
+
+fn main() {
+    let args: Vec<String> = std::env::args().skip(1).collect();
+    match args.iter().map(String::as_str).collect::<Vec<_>>()[..] {
+        ["equal"] => equal(),
+        ["cases"] => cases()
+            .iter()
+            .for_each(|c| println!("{}\t{}\t{}", c.name, c.calls, 2 + usize::from(c.unchecked.is_some()))),
+        ["time"] => {
+            equal();
+            cases().into_iter().for_each(time);
+        }
+        ["run", name, side, rounds] => {
+            let case = cases().into_iter().find(|c| c.name == name).expect("a case");
+            let mut side = match side {
+                "ours" => case.ours,
+                "checked" => case.checked,
+                "unchecked" => case.unchecked.expect("a record"),
+                _ => panic!("a side is ours, checked or unchecked"),
+            };
+            side(rounds.parse().expect("a number of rounds"));
+        }
+        _ => {
+            eprintln!("usage: link equal | cases | time | run CASE SIDE ROUNDS");
+            std::process::exit(2);
+        }
+    }
+}

@@ -1,0 +1,18 @@
+-- The answers of a reading as bytes: 36 for each slot, from slot 0 on (01, "Clock").
+use mathlib.Core.List.{List, [], _∷_, _++_}
+use Prim.Native.Nat.{ℕ}
+use lib.ListN.{replicate}
+use Rattle.receiver.specs.declared.answer.Answer.the-variants.{Ended}
+use Rattle.receiver.specs.declared.answer.End.{End}
+use Rattle.receiver.specs.declared.answer.End.the-variants as end
+use Rattle.receiver.specs.declared.answer.SlotEnd.{SlotEnd}
+use Rattle.answer_bytes.specs.Answers.{answerBytes}
+
+-- a session that ended is answered as a frame that ends one; zeros where none did
+abbrev pub endBytes : End → List ℕ
+endBytes end.Stays = replicate 36 0
+endBytes (end.Ended e) = answerBytes (Ended e)
+
+unfoldable pub endsBytes : List SlotEnd → List ℕ
+endsBytes [] = []
+endsBytes (e ∷ es) = endBytes (e .end) ++ endsBytes es

@@ -1,0 +1,123 @@
+-- What a caller reads out of the answer and the list: the groups of the frame, by index.
+use Prim.Native.Nat.{ℕ, zero, suc, _+_, _*_, _-_, _≤_, _<_}
+use native.Mathlib.Omega.{arith}
+use mathlib.Core.Path.{_≡_, refl, sym, ap, subst, _∙_}
+use mathlib.Core.Bool.{Bool, true, false, cond, not}
+use mathlib.Core.List.{List, [], _∷_, _++_}
+use lib.Dec.{eqb}
+use lib.ListN.{length, getD, drop, List·getD-append, length-append, length-drop}
+use lib.Seq.{getD-append-add, getD-drop}
+use borrow.Author.Tests.{eqb-true, eq-eqb, not-false}
+use Rattle.laws.specs.Choice.{else}
+use Rattle.frame.specs.Lengths.{isLength}
+use Rattle.frame.specs.declared.refusal.Refusal.{Refusal}
+use Rattle.frame.specs.declared.refusal.Refusal.the-variants.{FrameLength, OutOfBounds}
+use Rattle.multi_pg.specs.declared.Group.{Group}
+use Rattle.multi_pg.specs.Groups.{Reading, good, bad, reading, groupsIn, groupsOf}
+use Rattle.unpacking.specs.declared.Unpacked.{Unpacked}
+use Rattle.unpacking.specs.declared.Unpacked.the-variants.{Groups, Refused}
+use Rattle.unpacking.specs.Unpacking.{rows, unpackedBy, unpacked}
+use Rattle.unpacking.specs.Count.{few, length-to}
+
+-- ---- a group's numbers among those of all
+
+pub rows-length : (gs : List Group) → length (rows gs) ≡ 3 * length gs
+rows-length [] = refl
+rows-length (g ∷ gs) = omega (arith, rows-length gs)
+
+next : (gs : List Group) (g : Group) (i k : ℕ) → k < 3 → getD (rows (g ∷ gs)) (3 * suc i + k) 0 ≡ getD (rows gs) (3 * i + k) 0
+next gs g i k h = let e : 3 * suc i + k ≡ suc (suc (suc (3 * i + k))) = omega arith in ap (λ (m : ℕ). getD (rows (g ∷ gs)) m 0) e
+
+module _ (o : Group) where
+  at-pgn : (gs : List Group) (i : ℕ) → i < length gs → getD (rows gs) (3 * i + 0) 0 ≡ getD gs i o .pgn
+  at-pgn [] i h = absurd (omega arith)
+  at-pgn (g ∷ gs) zero h = refl
+  at-pgn (g ∷ gs) (suc i) h = next gs g i 0 (omega arith) ∙ at-pgn gs i (omega arith)
+
+  at-start : (gs : List Group) (i : ℕ) → i < length gs → getD (rows gs) (3 * i + 1) 0 ≡ getD gs i o .start
+  at-start [] i h = absurd (omega arith)
+  at-start (g ∷ gs) zero h = refl
+  at-start (g ∷ gs) (suc i) h = next gs g i 1 (omega arith) ∙ at-start gs i (omega arith)
+
+  at-len : (gs : List Group) (i : ℕ) → i < length gs → getD (rows gs) (3 * i + 2) 0 ≡ getD gs i o .len
+  at-len [] i h = absurd (omega arith)
+  at-len (g ∷ gs) zero h = refl
+  at-len (g ∷ gs) (suc i) h = next gs g i 2 (omega arith) ∙ at-len gs i (omega arith)
+
+-- ---- what an answer tells
+
+-- the answer n with the list l: the frame is good, n counts its groups, their numbers stand in l by index, the rest of l is that of out
+pub record Given (d out l : List ℕ) (n : ℕ) : Type 0 where
+  pub judged : reading d ≡ good (groupsOf d)
+  pub count : n ≡ length (groupsOf d)
+  pub most : n ≤ 16
+  pub pgn : (i : ℕ) (o : Group) → i < n → getD l (3 * i) 0 ≡ getD (groupsOf d) i o .pgn
+  pub start : (i : ℕ) (o : Group) → i < n → getD l (3 * i + 1) 0 ≡ getD (groupsOf d) i o .start
+  pub len : (i : ℕ) (o : Group) → i < n → getD l (3 * i + 2) 0 ≡ getD (groupsOf d) i o .len
+  pub rest : (j : ℕ) → 3 * n ≤ j → getD l j 0 ≡ getD out j 0
+  pub long : length l ≡ length out
+
+module _ (d out : List ℕ) where
+  given-by : (gs : List Group) → reading d ≡ good gs → length d ≤ 64 → length out ≡ 48 → Given d out (rows gs ++ drop (3 * length gs) out) (length gs)
+  given-by gs e h k =
+      let same : gs ≡ groupsOf d = ap groupsIn (sym e) in
+      let room : 4 * length gs ≤ length d = few d gs e in
+      let size : length (rows gs) ≡ 3 * length gs = rows-length gs in
+      let D : List ℕ = drop (3 * length gs) out in
+      record {
+        judged = e ∙ ap good same;
+        count = ap length same;
+        most = omega arith;
+        pgn = λ i o b.
+            let z : 3 * i ≡ 3 * i + 0 = omega arith in
+            ap (λ (m : ℕ). getD (rows gs ++ D) m 0) z ∙ List·getD-append (rows gs) D 0 (3 * i + 0) (omega arith) ∙ at-pgn o gs i b ∙ ap (λ (x : List Group). getD x i o .pgn) same;
+        start = λ i o b. List·getD-append (rows gs) D 0 (3 * i + 1) (omega arith) ∙ at-start o gs i b ∙ ap (λ (x : List Group). getD x i o .start) same;
+        len = λ i o b. List·getD-append (rows gs) D 0 (3 * i + 2) (omega arith) ∙ at-len o gs i b ∙ ap (λ (x : List Group). getD x i o .len) same;
+        rest = λ j b.
+            let z : j ≡ length (rows gs) + (j - 3 * length gs) = omega arith in
+            let y : 3 * length gs + (j - 3 * length gs) ≡ j = omega arith in
+            ap (λ (m : ℕ). getD (rows gs ++ D) m 0) z
+            ∙ getD-append-add (rows gs) D (j - 3 * length gs) 0
+            ∙ getD-drop (3 * length gs) out (j - 3 * length gs) 0
+            ∙ ap (λ (m : ℕ). getD out m 0) y;
+        long = length-append (rows gs) D ∙ simp length-drop (omega arith);
+      }
+
+  never : (r : Refusal) (n : ℕ) (l : List ℕ) → _≡_ {A = Unpacked × List ℕ} (Refused r, out) (Groups n, l) → ⊥
+  never r n l e = let q : Refused r ≡ Groups n = ap (λ (p : Unpacked × List ℕ). p .0) e in let z : _≡_ {A = ℕ} 0 1 = cc in omega arith
+
+  -- Whatever is lent: the answer is a count only where the groups of a good frame stand in the list.
+  pub given : (n : ℕ) (l : List ℕ) → unpacked d out ≡ (Groups n, l) → Given d out l n
+  unfolding unpacked
+  given n l e = go (not (eqb (length out) 48)) refl (not (isLength (length d))) refl (reading d) refl e where
+    go : (a : Bool) → not (eqb (length out) 48) ≡ a → (b : Bool) → not (isLength (length d)) ≡ b → (r : Reading) → reading d ≡ r
+        → cond a (Refused OutOfBounds, out) (cond b (Refused FrameLength, out) (unpackedBy r out)) ≡ (Groups n, l) → Given d out l n
+    go true p b q r z e = absurd (never OutOfBounds n l e)
+    go false p true q r z e = absurd (never FrameLength n l e)
+    go false p false q (bad r) z e = absurd (never r n l e)
+    go false p false q (good gs) z e =
+        let m : Groups (length gs) ≡ Groups n = ap (λ (p : Unpacked × List ℕ). p .0) e in
+        let c : length gs ≡ n = cc in
+        let t : rows gs ++ drop (3 * length gs) out ≡ l = ap (λ (p : Unpacked × List ℕ). p .1) e in
+        subst (λ (x : List ℕ). Given d out x n) t
+        (subst (λ (x : ℕ). Given d out (rows gs ++ drop (3 * length gs) out) x) c
+        (given-by gs z (length-to (length d) (not-false _ q)) (eqb-true (length out) 48 (not-false _ p))))
+
+  -- a refusal leaves the list as it was
+  pub refused : (r : Refusal) (l : List ℕ) → unpacked d out ≡ (Refused r, l) → l ≡ out
+  unfolding unpacked
+  refused r l e = go (not (eqb (length out) 48)) (not (isLength (length d))) (reading d) e where
+    go : (a b : Bool) (x : Reading) → cond a (Refused OutOfBounds, out) (cond b (Refused FrameLength, out) (unpackedBy x out)) ≡ (Refused r, l) → l ≡ out
+    go true b x e = sym (ap (λ (p : Unpacked × List ℕ). p .1) e)
+    go false true x e = sym (ap (λ (p : Unpacked × List ℕ). p .1) e)
+    go false false (bad y) e = sym (ap (λ (p : Unpacked × List ℕ). p .1) e)
+    go false false (good gs) e =
+        let q : Groups (length gs) ≡ Refused r = ap (λ (p : Unpacked × List ℕ). p .0) e in absurd (let z : _≡_ {A = ℕ} 0 1 = cc in omega arith)
+
+  -- and a good frame of a CAN FD length is not refused
+  pub answered : length out ≡ 48 → isLength (length d) ≡ true → (gs : List Group) → reading d ≡ good gs → Groups (length gs) ≡ unpacked d out .0
+  unfolding unpacked
+  answered h k gs e =
+      ap (λ (p : Unpacked × List ℕ). p .0)
+      (else (not (eqb (length out) 48)) _ _ _ (ap not (eq-eqb (length out) 48 h))
+      (else (not (isLength (length d))) _ _ _ (ap not k) (ap (λ (r : Reading). unpackedBy r out) (sym e))))

@@ -1,0 +1,111 @@
+//! include/dwaebinam.h for Rust: each call takes its buffers as slices. A slice is good for its length, and two mutable ones cannot
+//! overlap another, so what the header asks of the caller holds by the types here.
+
+mod header {
+    extern "C" {
+        pub fn dwb_least_length(need: usize) -> usize;
+        pub fn dwb_open(record: *mut u8, record_bytes: usize, own: u8, limit: u32, reading: u32) -> u8;
+        pub fn dwb_frame(
+            record: *mut u8,
+            record_bytes: usize,
+            id: u32,
+            bytes: *const u8,
+            bytes_len: usize,
+            store: *mut u8,
+            store_bytes: usize,
+            answer: *mut u8,
+            answer_bytes: usize,
+        ) -> u8;
+        pub fn dwb_reading(
+            record: *mut u8,
+            record_bytes: usize,
+            reading: u32,
+            store: *const u8,
+            store_bytes: usize,
+            answers: *mut u8,
+            answers_bytes: usize,
+        ) -> u8;
+        pub fn dwb_message(
+            answer: *const u8,
+            answer_bytes: usize,
+            store: *const u8,
+            store_bytes: usize,
+            out: *mut u8,
+            out_bytes: usize,
+        ) -> usize;
+        pub fn dwb_groups(bytes: *const u8, bytes_len: usize, groups: *mut u32, groups_words: usize) -> usize;
+        pub fn dwb_pack(
+            pgns: *const u32,
+            pgns_len: usize,
+            lengths: *const u8,
+            lengths_len: usize,
+            data: *const u8,
+            data_bytes: usize,
+            out: *mut u8,
+            out_bytes: usize,
+        ) -> usize;
+    }
+}
+
+pub fn least_length(need: usize) -> usize {
+    unsafe { header::dwb_least_length(need) }
+}
+
+pub fn open(record: &mut [u8], own: u8, limit: u32, reading: u32) -> u8 {
+    unsafe { header::dwb_open(record.as_mut_ptr(), record.len(), own, limit, reading) }
+}
+
+pub fn frame(record: &mut [u8], id: u32, bytes: &[u8], store: &mut [u8], answer: &mut [u8]) -> u8 {
+    unsafe {
+        header::dwb_frame(
+            record.as_mut_ptr(),
+            record.len(),
+            id,
+            bytes.as_ptr(),
+            bytes.len(),
+            store.as_mut_ptr(),
+            store.len(),
+            answer.as_mut_ptr(),
+            answer.len(),
+        )
+    }
+}
+
+pub fn reading(record: &mut [u8], reading: u32, store: &[u8], answers: &mut [u8]) -> u8 {
+    unsafe {
+        header::dwb_reading(
+            record.as_mut_ptr(),
+            record.len(),
+            reading,
+            store.as_ptr(),
+            store.len(),
+            answers.as_mut_ptr(),
+            answers.len(),
+        )
+    }
+}
+
+pub fn message(answer: &[u8], store: &[u8], out: &mut [u8]) -> usize {
+    unsafe {
+        header::dwb_message(answer.as_ptr(), answer.len(), store.as_ptr(), store.len(), out.as_mut_ptr(), out.len())
+    }
+}
+
+pub fn groups(bytes: &[u8], groups: &mut [u32]) -> usize {
+    unsafe { header::dwb_groups(bytes.as_ptr(), bytes.len(), groups.as_mut_ptr(), groups.len()) }
+}
+
+pub fn pack(pgns: &[u32], lengths: &[u8], data: &[u8], out: &mut [u8]) -> usize {
+    unsafe {
+        header::dwb_pack(
+            pgns.as_ptr(),
+            pgns.len(),
+            lengths.as_ptr(),
+            lengths.len(),
+            data.as_ptr(),
+            data.len(),
+            out.as_mut_ptr(),
+            out.len(),
+        )
+    }
+}

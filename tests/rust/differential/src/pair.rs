@@ -1,0 +1,395 @@
+//! Both sides of the comparison: each call is made through the rules and through the archive, on buffers that were equal before it, and
+//! everything it could have touched is compared after it: number, every lent buffer, and the bytes around each.
+
+use crate::random::Random;
+use rules::calls::{self, Code, ANSWERS_BYTES, ANSWER_BYTES, GROUPS_WORDS, RECORD_BYTES};
+use rules::receiver::{Receiver, STORE_BYTES};
+use std::fmt::{Debug, Display};
+
+/// Bytes before and behind each lent buffer, which no call may touch.
+const GUARD: usize = 64;
+const LARGEST: Sizes = Sizes { record: 300, store: 36_864, answer: 80, answers: 400, groups: 64, out: 5_000 };
+
+/// How many bytes (or words) of each buffer are lent.
+#[derive(Clone, Copy, Debug)]
+pub struct Sizes {
+    pub record: usize,
+    pub store: usize,
+    pub answer: usize,
+    pub answers: usize,
+    pub groups: usize,
+    pub out: usize,
+}
+
+pub const RIGHT: Sizes = Sizes {
+    record: RECORD_BYTES,
+    store: STORE_BYTES,
+    answer: ANSWER_BYTES,
+    answers: ANSWERS_BYTES,
+    groups: GROUPS_WORDS,
+    out: 64,
+};
+
+struct Buffer<T> {
+    all: Vec<T>,
+}
+
+impl<T: Copy + PartialEq + Debug> Buffer<T> {
+    fn new(largest: usize, guard: T) -> Buffer<T> {
+        Buffer { all: vec![guard; largest + 2 * GUARD] }
+    }
+
+    fn lent(&self, size: usize) -> &[T] {
+        &self.all[GUARD..GUARD + size]
+    }
+
+    fn lent_mut(&mut self, size: usize) -> &mut [T] {
+        &mut self.all[GUARD..GUARD + size]
+    }
+
+    /// Where the two differ, counted from the start of the lent part.
+    fn difference(&self, other: &Buffer<T>) -> Option<String> {
+        if self.all == other.all {
+            return None;
+        }
+        let at = self.all.iter().zip(&other.all).position(|(a, b)| a != b)?;
+        let place = at as i64 - GUARD as i64;
+        Some(format!("at {place}: {:02X?} by the rules, {:02X?} by the archive", self.all[at], other.all[at]))
+    }
+}
+
+/// The calls of one side.
+#[allow(clippy::type_complexity)]
+struct Calls {
+    least_length: fn(usize) -> usize,
+    open: fn(&mut [u8], u8, u32, u32) -> u8,
+    frame: fn(&mut [u8], u32, &[u8], &mut [u8], &mut [u8]) -> u8,
+    reading: fn(&mut [u8], u32, &[u8], &mut [u8]) -> u8,
+    message: fn(&[u8], &[u8], &mut [u8]) -> usize,
+    groups: fn(&[u8], &mut [u32]) -> usize,
+    pack: fn(&[u32], &[u8], &[u8], &mut [u8]) -> usize,
+}
+
+const RULES: Calls = Calls {
+    least_length: calls::least_length,
+    open: calls::open,
+    frame: calls::frame,
+    reading: calls::reading,
+    message: calls::message,
+    groups: calls::groups,
+    pack: calls::pack,
+};
+
+const ARCHIVE: Calls = Calls {
+    least_length: boundary::least_length,
+    open: boundary::open,
+    frame: boundary::frame,
+    reading: boundary::reading,
+    message: boundary::message,
+    groups: boundary::groups,
+    pack: boundary::pack,
+};
+
+struct Side {
+    calls: Calls,
+    record: Buffer<u8>,
+    store: Buffer<u8>,
+    answer: Buffer<u8>,
+    answers: Buffer<u8>,
+    groups: Buffer<u32>,
+    out: Buffer<u8>,
+}
+
+impl Side {
+    fn new(calls: Calls) -> Side {
+        Side {
+            calls,
+            record: Buffer::new(LARGEST.record, 0xC1),
+            store: Buffer::new(LARGEST.store, 0xC2),
+            answer: Buffer::new(LARGEST.answer, 0xC3),
+            answers: Buffer::new(LARGEST.answers, 0xC4),
+            groups: Buffer::new(LARGEST.groups, 0xC5C5_C5C5),
+            out: Buffer::new(LARGEST.out, 0xC6),
+        }
+    }
+}
+
+/// The two sides did not do the same, or not what the traffic had to bring.
+#[derive(Debug)]
+pub struct Difference(pub String);
+
+pub type Verdict<T> = Result<T, Difference>;
+
+pub fn expect(holds: bool, what: impl FnOnce() -> String) -> Verdict<()> {
+    if holds {
+        Ok(())
+    } else {
+        Err(Difference(what()))
+    }
+}
+
+/// What came up.
+#[derive(Clone, Default)]
+pub struct Tally {
+    pub calls: u64,
+    /// By number of the refusal; at 0 the calls that refused nothing.
+    pub numbers: [u64; 25],
+    /// By code of the answer.
+    pub codes: [u64; 10],
+    pub sent: u64,
+    pub messages: u64,
+    pub groups: u64,
+}
+
+impl Tally {
+    pub fn add(&mut self, other: &Tally) {
+        self.calls += other.calls;
+        self.sent += other.sent;
+        self.messages += other.messages;
+        self.groups += other.groups;
+        self.numbers.iter_mut().zip(other.numbers).for_each(|(a, b)| *a += b);
+        self.codes.iter_mut().zip(other.codes).for_each(|(a, b)| *a += b);
+    }
+}
+
+pub struct Pair {
+    rules: Side,
+    archive: Side,
+    /// The sizes that the next call lends.
+    pub sizes: Sizes,
+    pub tally: Tally,
+    noise: u8,
+}
+
+/// The bytes of an answer, as the archive wrote them.
+#[derive(Clone, Copy)]
+pub struct Given(pub [u8; ANSWER_BYTES]);
+
+impl Given {
+    pub fn number(&self) -> u8 {
+        self.0[0]
+    }
+
+    pub fn code(&self) -> u8 {
+        self.0[1]
+    }
+
+    pub fn word(&self, at: usize) -> u32 {
+        u32::from_le_bytes([self.0[at], self.0[at + 1], self.0[at + 2], self.0[at + 3]])
+    }
+
+    pub fn is(&self, code: Code) -> bool {
+        self.code() == code as u8
+    }
+
+    /// Identifier and bytes of the frame to be sent.
+    pub fn sent(&self) -> Option<(u32, &[u8])> {
+        (self.0[19] == 1).then(|| (self.word(20), &self.0[24..]))
+    }
+}
+
+macro_rules! same {
+    ($pair:ident, $call:expr, $($buffer:ident),*) => {
+        $(if let Some(difference) = $pair.rules.$buffer.difference(&$pair.archive.$buffer) {
+            return Err(Difference(format!("{}: {} {difference}", $call(), stringify!($buffer))));
+        })*
+    };
+}
+
+fn hex(bytes: &[u8]) -> String {
+    bytes.iter().map(|byte| format!("{byte:02X}")).collect()
+}
+
+impl Pair {
+    /// Nothing opened yet; the stores hold the same random bytes.
+    pub fn new(random: &mut Random) -> Pair {
+        let (rules, archive) = (Side::new(RULES), Side::new(ARCHIVE));
+        let mut pair = Pair { rules, archive, sizes: RIGHT, tally: Tally::default(), noise: 0 };
+        pair.fill_store(random);
+        pair
+    }
+
+    pub fn fill_store(&mut self, random: &mut Random) {
+        random.fill(self.rules.store.lent_mut(LARGEST.store));
+        self.archive.store.all.clone_from(&self.rules.store.all);
+    }
+
+    pub fn set_record(&mut self, bytes: &[u8; RECORD_BYTES]) {
+        self.rules.record.lent_mut(RECORD_BYTES).copy_from_slice(bytes);
+        self.archive.record.lent_mut(RECORD_BYTES).copy_from_slice(bytes);
+    }
+
+    pub fn record(&self) -> &[u8] {
+        self.archive.record.lent(RECORD_BYTES)
+    }
+
+    /// The state that the record stands for.
+    pub fn state(&self) -> Option<Receiver> {
+        calls::read_record(self.record())
+    }
+
+    /// One group of the last `groups`: PGN, start, length.
+    pub fn group(&self, i: usize) -> (u32, usize, usize) {
+        let words = &self.archive.groups.lent(GROUPS_WORDS)[3 * i..3 * i + 3];
+        (words[0], words[1] as usize, words[2] as usize)
+    }
+
+    /// The first bytes of the output of the last `pack` or `message`.
+    pub fn out(&self, length: usize) -> &[u8] {
+        self.archive.out.lent(length)
+    }
+
+    /// A value for what a call is to overwrite, another one each time.
+    fn next_noise(&mut self) -> u8 {
+        self.noise = self.noise.wrapping_mul(5).wrapping_add(3);
+        self.noise
+    }
+
+    /// Makes a call on both sides: what both returned.
+    fn both<N>(&mut self, name: impl Fn() -> String, mut call: impl FnMut(&mut Side) -> N) -> Verdict<N>
+    where
+        N: Copy + PartialEq + Display,
+    {
+        let (by_rules, by_archive) = (call(&mut self.rules), call(&mut self.archive));
+        self.tally.calls += 1;
+        let told = || format!("{}: {by_rules} by the rules, {by_archive} by the archive", name());
+        expect(by_rules == by_archive, told)?;
+        Ok(by_archive)
+    }
+
+    /// 01: a call that does not refuse with 23 leaves a record in bounds with the same opening values.
+    fn stays_in_bounds(&self, name: impl Fn() -> String, before: &[u8], number: u8) -> Verdict<()> {
+        let in_bounds = || self.state().is_some_and(|state| state.in_bounds());
+        let holds = number == 23 || (in_bounds() && self.record()[..5] == before[..5]);
+        expect(holds, || format!("{}: the next record is out of bounds", name()))
+    }
+
+    fn count(&mut self, given: &Given) {
+        self.tally.codes[usize::from(given.code())] += 1;
+        self.tally.sent += u64::from(given.0[19]);
+    }
+
+    pub fn least_length(&mut self, need: usize) -> Verdict<usize> {
+        self.both(|| format!("least length for {need}"), |side| (side.calls.least_length)(need))
+    }
+
+    pub fn open(&mut self, own: u8, limit: u32, reading: u32) -> Verdict<u8> {
+        let size = self.sizes.record;
+        let name = || format!("open of {size} bytes with {own}, {limit}, {reading}");
+        let number = self.both(name, |side| (side.calls.open)(side.record.lent_mut(size), own, limit, reading))?;
+        same!(self, name, record);
+        self.tally.numbers[usize::from(number)] += 1;
+        Ok(number)
+    }
+
+    /// None where the answer's buffer is of another size.
+    pub fn frame_raw(&mut self, id: u32, bytes: &[u8]) -> Verdict<Option<Given>> {
+        let (sizes, noise) = (self.sizes, self.next_noise());
+        let record = self.record().to_vec();
+        let name = || format!("frame {id:08X} {} on record {}, {sizes:?}", hex(bytes), hex(&record));
+        let lent = bytes.to_vec();
+        let number = self.both(name, |side| {
+            side.answer.lent_mut(LARGEST.answer).fill(noise);
+            let record = side.record.lent_mut(sizes.record);
+            let store = side.store.lent_mut(sizes.store);
+            (side.calls.frame)(record, id, &lent, store, side.answer.lent_mut(sizes.answer))
+        })?;
+        same!(self, name, answer, record, store);
+        expect(lent == bytes, || format!("{}: wrote into the frame", name()))?;
+        self.stays_in_bounds(name, &record, number)?;
+        self.tally.numbers[usize::from(number)] += 1;
+        let Ok(given) = self.archive.answer.lent(sizes.answer).try_into().map(Given) else {
+            return Ok(None);
+        };
+        self.count(&given);
+        Ok(Some(given))
+    }
+
+    /// A frame with all that belongs to its answer: the groups it carries, the message it hands over.
+    pub fn frame(&mut self, id: u32, bytes: &[u8]) -> Verdict<Given> {
+        let given = self.frame_raw(id, bytes)?.ok_or_else(|| Difference("no answer was lent".into()))?;
+        if given.is(Code::Groups) {
+            let count = self.groups(bytes)?;
+            expect(count <= 16, || format!("frame {} was taken, its groups were not", hex(bytes)))?;
+        }
+        if given.is(Code::HandedOver) {
+            let length = given.word(11) as usize;
+            self.message_within(&given.0, length - 1)?;
+            let copied = self.message_within(&given.0, length + usize::from(self.noise) % 3)?;
+            expect(copied == length, || format!("of {length} bytes handed over, {copied} were copied"))?;
+            self.tally.messages += 1;
+        }
+        Ok(given)
+    }
+
+    /// The number, and the eight answers where they were lent whole.
+    pub fn reading(&mut self, reading: u32) -> Verdict<(u8, Vec<Given>)> {
+        let (sizes, noise) = (self.sizes, self.next_noise());
+        let record = self.record().to_vec();
+        let name = || format!("reading {reading} on record {}, {sizes:?}", hex(&record));
+        let number = self.both(name, |side| {
+            side.answers.lent_mut(LARGEST.answers).fill(noise);
+            let record = side.record.lent_mut(sizes.record);
+            (side.calls.reading)(record, reading, side.store.lent(sizes.store), side.answers.lent_mut(sizes.answers))
+        })?;
+        same!(self, name, answers, record, store);
+        self.stays_in_bounds(name, &record, number)?;
+        self.tally.numbers[usize::from(number)] += 1;
+        if sizes.answers != ANSWERS_BYTES {
+            return Ok((number, vec![]));
+        }
+        let answers = self.archive.answers.lent(ANSWERS_BYTES).chunks_exact(ANSWER_BYTES);
+        let given: Vec<Given> = answers.map(|bytes| Given(bytes.try_into().expect("36 bytes each"))).collect();
+        for ending in given.iter().filter(|ending| ending.code() != 0) {
+            self.tally.numbers[usize::from(ending.number())] += 1;
+            self.count(ending);
+        }
+        Ok((number, given))
+    }
+
+    fn message_within(&mut self, answer: &[u8], room: usize) -> Verdict<usize> {
+        let sizes = self.sizes;
+        self.sizes.out = room;
+        let copied = self.message(answer);
+        self.sizes = sizes;
+        copied
+    }
+
+    pub fn message(&mut self, answer: &[u8]) -> Verdict<usize> {
+        let (sizes, noise) = (self.sizes, self.next_noise());
+        let name = || format!("message of {}, {sizes:?}", hex(answer));
+        let length = self.both(name, |side| {
+            side.out.lent_mut(LARGEST.out).fill(noise);
+            (side.calls.message)(answer, side.store.lent(sizes.store), side.out.lent_mut(sizes.out))
+        })?;
+        same!(self, name, out, store);
+        Ok(length)
+    }
+
+    /// How many, or 256 times the number of the refusal.
+    pub fn groups(&mut self, bytes: &[u8]) -> Verdict<usize> {
+        let (sizes, noise) = (self.sizes, self.next_noise());
+        let name = || format!("groups of {}, {sizes:?}", hex(bytes));
+        let count = self.both(name, |side| {
+            side.groups.lent_mut(LARGEST.groups).fill(u32::from(noise) * 0x0101_0101);
+            (side.calls.groups)(bytes, side.groups.lent_mut(sizes.groups))
+        })?;
+        same!(self, name, groups);
+        self.tally.numbers[count >> 8] += 1;
+        self.tally.groups += count as u64 & 0xFF;
+        Ok(count)
+    }
+
+    /// The frame's length, or 256 times the number of the refusal.
+    pub fn pack(&mut self, pgns: &[u32], lengths: &[u8], data: &[u8]) -> Verdict<usize> {
+        let (sizes, noise) = (self.sizes, self.next_noise());
+        let name = || format!("pack of {pgns:?} {lengths:?} {}, {sizes:?}", hex(data));
+        let length = self.both(name, |side| {
+            side.out.lent_mut(LARGEST.out).fill(noise);
+            (side.calls.pack)(pgns, lengths, data, side.out.lent_mut(sizes.out))
+        })?;
+        same!(self, name, out);
+        self.tally.numbers[length >> 8] += 1;
+        Ok(length)
+    }
+}

@@ -1,0 +1,46 @@
+//! The kinds of traffic. Each runs until its pair has made as many calls as it is asked for.
+
+mod clock;
+mod hostile;
+mod multi_pg;
+mod network;
+mod records;
+mod small;
+
+use crate::pair::{Pair, Verdict};
+use crate::random::Random;
+
+pub struct Kind {
+    pub name: &'static str,
+    pub calls: u64,
+    /// Refusals that this kind has to bring.
+    pub must_refuse: &'static [u8],
+    pub run: fn(&mut Pair, &mut Random, u64) -> Verdict<()>,
+}
+
+pub const KINDS: [Kind; 14] = [
+    Kind { name: "valid transfers", calls: 225_000, must_refuse: &[], run: network::valid },
+    Kind { name: "interleaved senders", calls: 300_000, must_refuse: &[15, 22], run: network::interleaved },
+    Kind {
+        name: "damaged transfers",
+        calls: 300_000,
+        must_refuse: &[1, 2, 3, 9, 16, 18, 19, 20, 21],
+        run: network::damaged,
+    },
+    Kind { name: "slots full and reused", calls: 300_000, must_refuse: &[14, 15], run: network::full },
+    Kind {
+        name: "hostile frames",
+        calls: 300_000,
+        must_refuse: &[1, 2, 3, 8, 9, 10, 11, 12, 13, 14, 15, 16, 17, 18, 19, 20, 21],
+        run: hostile::run,
+    },
+    Kind { name: "clocks", calls: 225_000, must_refuse: &[22], run: clock::run },
+    Kind { name: "records of any bytes", calls: 90_000, must_refuse: &[23], run: records::any_bytes },
+    Kind { name: "records of any fields", calls: 90_000, must_refuse: &[23], run: records::any_fields },
+    Kind { name: "records at the edges", calls: 300_000, must_refuse: &[18, 19, 20, 21, 22, 23], run: records::edges },
+    Kind { name: "buffers of other lengths", calls: 90_000, must_refuse: &[23], run: records::other_lengths },
+    Kind { name: "Multi-PG frames", calls: 225_000, must_refuse: &[1, 4, 5, 6, 7, 8], run: multi_pg::frames },
+    Kind { name: "packing", calls: 225_000, must_refuse: &[8, 24], run: multi_pg::packing },
+    Kind { name: "least lengths and openings", calls: 75_000, must_refuse: &[23], run: small::lengths_and_openings },
+    Kind { name: "messages of any answer", calls: 90_000, must_refuse: &[], run: small::messages },
+];

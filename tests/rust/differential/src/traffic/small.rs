@@ -1,0 +1,56 @@
+//! The calls that need no receiver: lengths, openings, and the message of any answer.
+
+use crate::pair::{expect, Pair, Verdict, RIGHT};
+use crate::random::Random;
+
+pub fn lengths_and_openings(pair: &mut Pair, random: &mut Random, calls: u64) -> Verdict<()> {
+    for need in 0..=300 {
+        pair.least_length(need)?;
+    }
+    for bits in 0..usize::BITS {
+        for near in [(1 << bits) - 1, 1 << bits, (1 << bits) + 1, usize::MAX >> bits] {
+            pair.least_length(near)?;
+        }
+    }
+    for own in 0..=255 {
+        for limit in [0, 1, 2, 59_999, 60_000, 60_001, 65_536, u32::MAX] {
+            pair.open(own, limit, random.u32())?;
+            // A refused opening's record is refused by every call.
+            let (number, _) = pair.reading(random.u32())?;
+            let is_good = own <= 253 && (1..=60_000).contains(&limit);
+            expect((number == 0) == is_good, || format!("opening {own}, {limit}: then a reading gave {number}"))?;
+            let id = 7 << 26 | 37 << 16 | 255 << 8 | u32::from(own ^ 1);
+            pair.frame(id, &[])?;
+        }
+    }
+    while pair.tally.calls < calls {
+        pair.least_length(random.word() as usize >> random.below(64))?;
+        pair.sizes.record = if random.once_in(4) { random.below(300) } else { RIGHT.record };
+        pair.open(random.byte(), random.u32() >> random.below(32), random.u32())?;
+        pair.sizes = RIGHT;
+    }
+    Ok(())
+}
+
+pub fn messages(pair: &mut Pair, random: &mut Random, calls: u64) -> Verdict<()> {
+    while pair.tally.calls < calls {
+        let size = if random.once_in(6) { random.pick(&[0, 1, 2, 7, 35, 37, 72]) } else { 36 };
+        let mut answer = random.bytes(size);
+        if size == 36 && !random.once_in(8) {
+            answer[0] = 0;
+            answer[1] = if random.once_in(6) { random.below(12) as u8 } else { 5 };
+            answer[6] = if random.once_in(8) { random.byte() } else { random.below(10) as u8 };
+            let total = match random.below(6) {
+                0 => random.pick(&[0, 1, 60, 4_095, 4_096, 4_097, 8_192, 32_768]),
+                1 => random.u32(),
+                _ => random.below(4_097) as u32,
+            };
+            answer[11..15].copy_from_slice(&total.to_le_bytes());
+        }
+        pair.sizes.out = random.pick(&[0, 1, 60, 4_095, 4_096, 4_096, 4_096, 4_097, 5_000]);
+        pair.sizes.store = random.pick(&[32_768, 32_768, 32_768, 32_767, 4_096, 0, 36_864]);
+        pair.message(&answer)?;
+        pair.sizes = RIGHT;
+    }
+    Ok(())
+}

@@ -1,0 +1,372 @@
+//! 01 "Transfer frames" and "Life of a session": the receiver over a typed state.
+
+use crate::frame::{self, is_pgn, is_taken, number24, Carried, Route, GLOBAL};
+use crate::{groups, Refusal};
+
+pub const SLOTS: usize = 8;
+pub const SLOT_BYTES: usize = 4096;
+pub const STORE_BYTES: usize = SLOTS * SLOT_BYTES;
+/// Data bytes in one segment.
+pub const SEGMENT_BYTES: u32 = 60;
+/// One CTS grants no more segments than this.
+pub const GRANT: u32 = 16;
+pub const LARGEST_MESSAGE: u32 = 4096;
+pub const LARGEST_OWN: u8 = 253;
+pub const LARGEST_LIMIT: u32 = 60_000;
+
+#[derive(Clone, Copy, Debug, PartialEq, Eq)]
+pub enum Kind {
+    Rts,
+    Bam,
+}
+
+#[derive(Clone, Copy, Debug, PartialEq, Eq)]
+pub struct Key {
+    pub sa: u8,
+    pub da: u8,
+    pub session: u8,
+}
+
+#[derive(Clone, Copy, Debug, PartialEq, Eq)]
+pub struct Session {
+    pub kind: Kind,
+    pub key: Key,
+    pub total_bytes: u32,
+    pub segments: u32,
+    /// MAX SGMTS. A broadcast has none; the byte in its place is kept as it came.
+    pub max_segments: u8,
+    pub pgn: u32,
+    pub next: u32,
+    /// The last segment granted; 0 in a broadcast that was opened here.
+    pub granted: u32,
+    pub mark: u32,
+}
+
+#[derive(Clone, Debug, PartialEq, Eq)]
+pub struct Receiver {
+    pub own: u8,
+    pub limit: u32,
+    pub last_reading: u32,
+    pub slots: [Option<Session>; SLOTS],
+}
+
+/// A session that ended by 19, 21 or 22.
+#[derive(Clone, Copy, Debug, PartialEq, Eq)]
+pub struct Ending {
+    pub key: Key,
+    pub kind: Kind,
+    pub pgn: u32,
+    pub refusal: Refusal,
+}
+
+#[derive(Clone, Copy, Debug, PartialEq, Eq)]
+pub enum Answer {
+    /// The frame's groups can be read.
+    Groups,
+    /// A broadcast was opened.
+    Opened(Key),
+    /// A segment was taken and no CTS is due.
+    Taken {
+        key: Key,
+        segment: u32,
+    },
+    /// A CTS is due, after an RTS or after the segment that used a grant up.
+    Grant {
+        key: Key,
+        pgn: u32,
+        next: u32,
+        count: u8,
+    },
+    HandedOver {
+        key: Key,
+        kind: Kind,
+        slot: usize,
+        pgn: u32,
+        total_bytes: u32,
+        segments: u32,
+    },
+    /// The originator ended its session.
+    Aborted(Key),
+    Ended(Ending),
+    /// An RTS to the own address was refused and is answered by Abort.
+    RefusedRts {
+        key: Key,
+        pgn: u32,
+        refusal: Refusal,
+    },
+    /// Refused with no effect.
+    Refused(Refusal),
+}
+
+impl Answer {
+    pub fn number(&self) -> u8 {
+        match self {
+            Answer::Ended(ending) => ending.refusal.number(),
+            Answer::RefusedRts { refusal, .. } | Answer::Refused(refusal) => refusal.number(),
+            _ => 0,
+        }
+    }
+}
+
+/// RTS or BAM, as it came.
+struct Announcement {
+    kind: Kind,
+    total_bytes: u32,
+    segments: u32,
+    max_segments: u8,
+    assurance: u8,
+    pgn: u32,
+}
+
+/// How many segments a message takes.
+pub fn segments_of(total_bytes: u32) -> u32 {
+    total_bytes.div_ceil(SEGMENT_BYTES)
+}
+
+/// How many segments the next CTS grants.
+fn grant(max_segments: u8, left: u32) -> u32 {
+    u32::from(max_segments).min(GRANT).min(left)
+}
+
+fn opening_ok(own: u8, limit: u32) -> bool {
+    own <= LARGEST_OWN && (1..=LARGEST_LIMIT).contains(&limit)
+}
+
+impl Session {
+    /// All segments are in.
+    fn is_whole(&self) -> bool {
+        self.next > self.segments
+    }
+
+    /// How many bytes of the message segment `n` brings.
+    fn data_due(&self, n: u32) -> usize {
+        let before = SEGMENT_BYTES * (n - 1);
+        (self.total_bytes - before).min(SEGMENT_BYTES) as usize
+    }
+
+    /// 01 "State in bounds", for one open slot.
+    fn in_bounds(&self, own: u8) -> bool {
+        let announced = (1..=LARGEST_MESSAGE).contains(&self.total_bytes)
+            && self.segments == segments_of(self.total_bytes)
+            && is_pgn(self.pgn);
+        let route = Route { sa: self.key.sa, da: self.key.da };
+        announced
+            && is_taken(route, own)
+            && self.key.session <= 15
+            && (1..=self.segments + 1).contains(&self.next)
+            && self.kind_in_bounds(own)
+    }
+
+    fn kind_in_bounds(&self, own: u8) -> bool {
+        match self.kind {
+            Kind::Bam => self.key.da == GLOBAL,
+            Kind::Rts => {
+                let grant_ok = if self.is_whole() {
+                    self.granted == self.segments
+                } else {
+                    (self.next..=self.segments).contains(&self.granted)
+                };
+                self.key.da == own && self.max_segments >= 1 && grant_ok
+            }
+        }
+    }
+
+    fn ended_by(&self, refusal: Refusal) -> Ending {
+        Ending { key: self.key, kind: self.kind, pgn: self.pgn, refusal }
+    }
+}
+
+impl Receiver {
+    /// The receiver that an opening gives. A refused one keeps what it was given, and is out of bounds for good.
+    pub fn open(own: u8, limit: u32, reading: u32) -> (Receiver, Result<(), Refusal>) {
+        let receiver = Receiver { own, limit, last_reading: reading, slots: [None; SLOTS] };
+        let verdict = if opening_ok(own, limit) { Ok(()) } else { Err(Refusal::OutOfBounds) };
+        (receiver, verdict)
+    }
+
+    pub fn in_bounds(&self) -> bool {
+        let open: Vec<&Session> = self.slots.iter().flatten().collect();
+        let one_each = (1..open.len()).all(|i| open[..i].iter().all(|other| other.key != open[i].key));
+        opening_ok(self.own, self.limit) && one_each && open.iter().all(|session| session.in_bounds(self.own))
+    }
+
+    /// Takes one frame.
+    pub fn frame(&mut self, id: u32, bytes: &[u8], store: &mut [u8]) -> Answer {
+        self.judged(id, bytes, store).unwrap_or_else(Answer::Refused)
+    }
+
+    fn judged(&mut self, id: u32, bytes: &[u8], store: &mut [u8]) -> Result<Answer, Refusal> {
+        if !self.in_bounds() || store.len() != STORE_BYTES {
+            return Err(Refusal::OutOfBounds);
+        }
+        let (carried, route) = frame::judge(id, bytes.len(), self.own)?;
+        match carried {
+            Carried::Groups => groups::read(bytes).map(|_| Answer::Groups),
+            Carried::Control => self.control(route, bytes),
+            Carried::Segment => self.segment(route, bytes, store),
+        }
+    }
+
+    /// Takes a reading of the clock: what ends, slot by slot.
+    pub fn reading(&mut self, reading: u32, store: &[u8]) -> Result<[Option<Ending>; SLOTS], Refusal> {
+        if !self.in_bounds() || store.len() != STORE_BYTES {
+            return Err(Refusal::OutOfBounds);
+        }
+        let mut endings = [None; SLOTS];
+        for (slot, ending) in self.slots.iter_mut().zip(&mut endings) {
+            if let Some(session) = slot {
+                if reading.wrapping_sub(session.mark) >= self.limit {
+                    *ending = Some(session.ended_by(Refusal::Silence));
+                    *slot = None;
+                }
+            }
+        }
+        self.last_reading = reading;
+        Ok(endings)
+    }
+
+    fn find(&self, key: Key) -> Option<(usize, Session)> {
+        let slot = self.slots.iter().position(|slot| slot.is_some_and(|session| session.key == key))?;
+        Some((slot, self.slots[slot]?))
+    }
+
+    fn control(&mut self, route: Route, bytes: &[u8]) -> Result<Answer, Refusal> {
+        let key = Key { sa: route.sa, da: route.da, session: bytes[0] >> 4 };
+        let role = bytes[7] & 0b11;
+        match bytes[0] & 0xF {
+            0 => self.announcement(key, Kind::Rts, bytes),
+            2 => self.end_of_message(key, bytes),
+            4 => self.announcement(key, Kind::Bam, bytes),
+            15 if role == 0 => self.abort(key, bytes),
+            _ => Err(Refusal::ControlNotAReceivers),
+        }
+    }
+
+    fn announcement(&mut self, key: Key, kind: Kind, bytes: &[u8]) -> Result<Answer, Refusal> {
+        let announcement = Announcement {
+            kind,
+            total_bytes: number24(&bytes[1..4]),
+            segments: number24(&bytes[4..7]),
+            max_segments: bytes[7],
+            assurance: bytes[8],
+            pgn: number24(&bytes[9..12]),
+        };
+        let due_da = if kind == Kind::Rts { self.own } else { GLOBAL };
+        if key.da != due_da {
+            return Err(Refusal::AnnouncementNumbers);
+        }
+        match (self.place_for(key, &announcement), kind) {
+            (Ok(slot), _) => Ok(self.open_session(slot, key, &announcement)),
+            (Err(refusal), Kind::Rts) => Ok(Answer::RefusedRts { key, pgn: announcement.pgn, refusal }),
+            (Err(refusal), Kind::Bam) => Err(refusal),
+        }
+    }
+
+    /// The slot for a new session, or why there is none.
+    fn place_for(&self, key: Key, a: &Announcement) -> Result<usize, Refusal> {
+        let no_grant = a.kind == Kind::Rts && a.max_segments == 0;
+        if a.total_bytes == 0 || a.segments != segments_of(a.total_bytes) || no_grant {
+            return Err(Refusal::AnnouncementNumbers);
+        }
+        if a.total_bytes > LARGEST_MESSAGE {
+            return Err(Refusal::MessageTooLarge);
+        }
+        if a.assurance != 0 {
+            return Err(Refusal::AssuranceAnnounced);
+        }
+        if !is_pgn(a.pgn) {
+            return Err(Refusal::WrongPgn);
+        }
+        if self.find(key).is_some() {
+            return Err(Refusal::KeyAlreadyOpen);
+        }
+        self.slots.iter().position(Option::is_none).ok_or(Refusal::EightSessionsOpen)
+    }
+
+    fn open_session(&mut self, slot: usize, key: Key, a: &Announcement) -> Answer {
+        let count = grant(a.max_segments, a.segments);
+        let granted = if a.kind == Kind::Rts { count } else { 0 };
+        self.slots[slot] = Some(Session {
+            kind: a.kind,
+            key,
+            total_bytes: a.total_bytes,
+            segments: a.segments,
+            max_segments: a.max_segments,
+            pgn: a.pgn,
+            next: 1,
+            granted,
+            mark: self.last_reading,
+        });
+        match a.kind {
+            Kind::Rts => Answer::Grant { key, pgn: a.pgn, next: 1, count: count as u8 },
+            Kind::Bam => Answer::Opened(key),
+        }
+    }
+
+    fn segment(&mut self, route: Route, bytes: &[u8], store: &mut [u8]) -> Result<Answer, Refusal> {
+        if bytes[0] & 0xF != 0 {
+            return Err(Refusal::FormatIndicator);
+        }
+        let key = Key { sa: route.sa, da: route.da, session: bytes[0] >> 4 };
+        let (slot, session) = self.find(key).ok_or(Refusal::KeyNotOpen)?;
+        let n = number24(&bytes[1..4]);
+        if n < session.next {
+            return Err(Refusal::SegmentAlreadyTaken);
+        }
+        if n > session.next || n > session.segments {
+            return Ok(self.end(slot, session, Refusal::SegmentOutOfSequence));
+        }
+        let due = session.data_due(n);
+        let Some(data) = bytes.get(4..4 + due) else {
+            return Err(Refusal::SegmentTooShort);
+        };
+        let place = slot * SLOT_BYTES + (SEGMENT_BYTES * (n - 1)) as usize;
+        store[place..place + due].copy_from_slice(data);
+        Ok(self.bring_forward(slot, session, n))
+    }
+
+    /// Segment `n` of the session is in.
+    fn bring_forward(&mut self, slot: usize, session: Session, n: u32) -> Answer {
+        let mut forward = Session { next: n + 1, mark: self.last_reading, ..session };
+        let left = session.segments - n;
+        let grant_used_up = session.kind == Kind::Rts && n == session.granted;
+        let answer = if grant_used_up && left > 0 {
+            let count = grant(session.max_segments, left);
+            forward.granted = n + count;
+            Answer::Grant { key: session.key, pgn: session.pgn, next: n + 1, count: count as u8 }
+        } else {
+            Answer::Taken { key: session.key, segment: n }
+        };
+        self.slots[slot] = Some(forward);
+        answer
+    }
+
+    fn end_of_message(&mut self, key: Key, bytes: &[u8]) -> Result<Answer, Refusal> {
+        let (slot, session) = self.find(key).ok_or(Refusal::KeyNotOpen)?;
+        let as_announced = number24(&bytes[1..4]) == session.total_bytes
+            && number24(&bytes[4..7]) == session.segments
+            && bytes[8] == 0
+            && number24(&bytes[9..12]) == session.pgn;
+        if !session.is_whole() || !as_announced {
+            return Ok(self.end(slot, session, Refusal::EndNotAsAnnounced));
+        }
+        self.slots[slot] = None;
+        let Session { kind, pgn, total_bytes, segments, .. } = session;
+        Ok(Answer::HandedOver { key, kind, slot, pgn, total_bytes, segments })
+    }
+
+    fn abort(&mut self, key: Key, bytes: &[u8]) -> Result<Answer, Refusal> {
+        match self.find(key) {
+            Some((slot, session)) if number24(&bytes[9..12]) == session.pgn => {
+                self.slots[slot] = None;
+                Ok(Answer::Aborted(key))
+            }
+            _ => Err(Refusal::KeyNotOpen),
+        }
+    }
+
+    fn end(&mut self, slot: usize, session: Session, refusal: Refusal) -> Answer {
+        self.slots[slot] = None;
+        Answer::Ended(session.ended_by(refusal))
+    }
+}
