@@ -1,18 +1,22 @@
 -- An answer put into its buffer.
 use Prim.Native.Nat.{ℕ, _+_, _-_, _≤_}
 use native.Mathlib.Omega.{arith}
-use mathlib.Core.Path.{_≡_, ap, _∙_}
+use mathlib.Core.Path.{_≡_, refl, sym, ap, _∙_}
 use mathlib.Core.List.{List, _++_, append-assoc, append-nil}
-use lib.ListN.{length, take, drop-of-length-le}
-use lib.Seq.{paste, take-paste, length-paste, take-all}
+use lib.ListN.{length, take, drop, replicate, drop-of-length-le, take-append-drop}
+use lib.Seq.{paste, take-paste, drop-paste, length-paste, take-all}
 use Rattle.transport.specs.declared.response.Response.{Response}
 use Rattle.transport.specs.Responses.{responseBytes, responseId}
 use Rattle.receiver.specs.declared.answer.Answer.{Answer}
+use Rattle.receiver.specs.declared.answer.Answer.the-variants.{Ended}
+use Rattle.receiver.specs.declared.answer.End.the-variants as end
+use Rattle.receiver.specs.declared.answer.Ending.{Ending}
 use Rattle.receiver.specs.declared.answer.Sending.{Sending}
-use Rattle.receiver.specs.Answers.{answerSends, sendingOf}
+use Rattle.receiver.specs.declared.answer.Sending.the-variants as sending
+use Rattle.receiver.specs.Answers.{answerSends, endSends, sendingOf}
 use Rattle.answer_bytes.specs.declared.answer.Fields.{Fields}
 use Rattle.answer_bytes.specs.Sizes.{length-response}
-use Rattle.answer_bytes.specs.Answers.{fieldsOf, fieldsBytes, sentHead, responseSent, sentBytes, answerBytes}
+use Rattle.answer_bytes.specs.Answers.{endedFields, fieldsOf, fieldsBytes, sentHead, responseSent, sentBytes, answerBytes}
 
 -- a copy that reaches the end
 pub paste-end : (d : List ℕ) (at : ℕ) (s : List ℕ) (n : ℕ) → length d ≡ at + n → length s ≡ n → paste d at s n ≡ take at d ++ s
@@ -44,3 +48,18 @@ answer-put a F S d o₁ o₂ h long eF eh e₁ eS e₂ =
     ∙ ap (λ (l : List ℕ). take 19 l ++ sentBytes S) e₁
     ∙ ap (λ (l : List ℕ). l ++ sentBytes S) (take-paste d 0 h 19 (omega arith) (omega arith) ∙ take-all 19 h (omega arith) ∙ eh ∙ ap fieldsBytes eF)
     ∙ ap (λ (s : Sending). fieldsBytes (fieldsOf a) ++ sentBytes s) eS
+
+-- The answer of a session that ended, over zeros.
+module _ (e : Ending) (F : Fields) (S : Sending) (h o : List ℕ) (eF : F ≡ endedFields e) (eh : h ≡ fieldsBytes F) (eo : o ≡ paste (replicate 36 0) 0 h 19) (eS : S ≡ sendingOf (endSends (end.Ended e))) where
+  pub ended-sends : (f : Response) (o′ : List ℕ) → S ≡ sending.Send f → o′ ≡ take 19 o ++ responseSent f → o′ ≡ answerBytes (Ended e)
+  ended-sends f o′ q p =
+      answer-put (Ended e) F S (replicate 36 0) o o′ h refl eF eh eo eS (p ∙ ap (λ (s : Sending). take 19 o ++ sentBytes s) (sym q))
+
+  pub ended-quiet : S ≡ sending.Nothing → o ≡ answerBytes (Ended e)
+  unfolding fieldsBytes
+  ended-quiet q =
+      let lh : length h ≡ 19 = ap length eh in
+      answer-put (Ended e) F S (replicate 36 0) o o h refl eF eh eo eS
+      (sym (take-append-drop 19 o)
+      ∙ ap (λ (l : List ℕ). take 19 o ++ l) (ap (drop 19) eo ∙ drop-paste (replicate 36 0) 0 h 19 (omega arith) (omega arith))
+      ∙ ap (λ (s : Sending). take 19 o ++ sentBytes s) (sym q))

@@ -118,7 +118,7 @@ fn message_fields(m: Message) -> Fields
     }
 }
 
-fn ended_fields(e: Ending) -> Fields
+pub fn ended_fields(e: Ending) -> Fields
     ensures { λ r. ⌜ r ≡ endedFields e ⌝ }
 {
     let key = e.key;
@@ -169,7 +169,7 @@ fn fields_of(a: Answer) -> Fields
     }
 }
 
-fn fields_bytes(f: Fields) -> [u8; 19]
+pub fn fields_bytes(f: Fields) -> [u8; 19]
     ensures { λ r. ⌜ r ≡ fieldsBytes f ⌝ }
 {
     [
@@ -208,7 +208,7 @@ fn sent_head(id: u32) -> [u8; 5]
 }
 
 // A control frame behind the fields: 1, identifier, 12 bytes.
-fn put_response(f: Response, out: &mut [u8])
+pub fn put_response(f: Response, out: &mut [u8])
     requires { ⌜ length (now out) ≡ 36 ⌝ }
     ensures { λ _. ⌜ now (out .exit) ≡ take 19 (now (out .entry)) ++ responseSent f ⌝ }
 {

@@ -1,29 +1,47 @@
 // The answers of a reading as bytes: one for each slot, in the slots' order.
 ghost use mathlib.Core.Path.{_≡_};
 ghost use lib.ListN.{length};
+ghost use Rattle.receiver.specs.declared.answer.Answer.the-variants.{Ended};
+ghost use Rattle.answer_bytes.specs.Answers.{answerBytes};
 ghost use Rattle.answer_bytes.specs.Ends.{endBytes, endsBytes};
 use super::answer::ANSWER_BYTES;
-use super::answer::write_answer;
-use receiver::answer::Answer;
+use super::answer::ended_fields;
+use super::answer::fields_bytes;
+use super::answer::put_response;
 use receiver::answer::End;
+use receiver::answer::Ending;
+use receiver::answer::Sending;
 use receiver::answer::SlotEnd;
+use receiver::answer::response_of_end;
 use record_bytes::layout::copy;
 use slots::SLOTS;
 
 pub const ANSWERS_BYTES: usize = 288;
 
-// The bytes for one slot: the answer of a session that ended, else zeros.
+// The answer of a session that ended, as a frame's that ends one: an Abort behind the fields, or zeros.
+fn ended_bytes(e: Ending) -> [u8; 36]
+    ensures { λ r. ⌜ r ≡ answerBytes (Ended e) ⌝ }
+{
+    let mut piece = [0u8; 36];
+    let head = fields_bytes(ended_fields(e));
+    copy(&mut piece, 0, &head, 19);
+    match response_of_end(End::Ended(e)) {
+        Sending::Nothing => piece,
+        Sending::Send(f) => {
+            put_response(f, &mut piece);
+            piece
+        }
+    }
+}
+
+// The bytes for one slot: zeros where no session ended.
 fn end_bytes(s: SlotEnd) -> [u8; 36]
     ensures { λ r. ⌜ r ≡ endBytes (s .end) ⌝ }
 {
-    let mut piece = [0u8; 36];
     let end = s.end;
     match end {
-        End::Stays => piece,
-        End::Ended(e) => {
-            write_answer(Answer::Ended(e), &mut piece);
-            piece
-        }
+        End::Stays => [0; 36],
+        End::Ended(e) => ended_bytes(e),
     }
 }
 
