@@ -1,20 +1,25 @@
 -- What the code wrote into the buffer, beside what the receiver's step says.
-use Prim.Native.Nat.{ℕ}
+use Prim.Native.Nat.{ℕ, _+_, _*_, _<_}
 use mathlib.Core.Path.{_≡_, sym, ap, _∙_}
 use mathlib.Core.Bool.{Bool, true, false, cond}
 use mathlib.Core.List.{List}
+use lib.ListN.{getD}
+use lib.Seq.{paste}
 use Rattle.frame.specs.declared.refusal.Refusal.{Refusal}
 use Rattle.session.specs.declared.Session.{Session}
+use Rattle.session.specs.Segments.{advancedBy}
 use Rattle.slots.specs.declared.SlotState.{SlotState}
 use Rattle.slots.specs.declared.SlotState.the-variants.{Free, Open}
 use Rattle.slots.specs.declared.Found.{Found}
 use Rattle.slots.specs.declared.Found.the-variants.{At, Nothing}
-use Rattle.slots.specs.Slots.{onFound, onState}
+use Rattle.slots.specs.Slots.{freeSlot, onFound, onState}
 use Rattle.receiver.specs.declared.answer.Answer.{Answer}
 use Rattle.receiver.specs.declared.answer.Answer.the-variants.{Refused}
-use Rattle.receiver.specs.Calls.{Outcome, refused}
-use Rattle.record_bytes.specs.Layout.{recordAt}
-use Rattle.record_bytes.specs.Kept.{keep}
+use Rattle.receiver.specs.Calls.{Outcome, refused, withSlot}
+use Rattle.record_bytes.specs.Layout.{progressBytes, slotsAt, recordAt}
+use Rattle.record_bytes.specs.Keeping.{putIn}
+use Rattle.record_bytes.specs.Kept.{keep, put-one, put-forward}
+use Rattle.lent_record.specs.Held.{slot-of}
 use Rattle.in_place_control.specs.Step.{Holds}
 use Rattle.in_place.specs.Seen.{Seen, seenIn}
 
@@ -23,6 +28,16 @@ module _ (b : List ℕ) (h : Holds b) where
   pub wrote-none : (a : Answer) (n : Refusal) (m : List ℕ) → a ≡ Refused n → _≡_ {A = Seen} (a, (b, m)) (seenIn b (refused (recordAt b) n, m))
   wrote-none a n m e =
       ap (λ (x : Answer). (x, (b, m))) e ∙ ap (λ (l : List ℕ). (Refused n, (l, m))) (sym (keep b (h .bytes) (h .codes)))
+
+  -- the session of slot i brought forward
+  pub wrote-forward : (i : ℕ) (s t : Session) (n last : ℕ) (o : List ℕ) → i < 8 → getD (slotsAt b) i freeSlot .state ≡ Open s → t ≡ advancedBy s n last → o ≡ paste b (27 + 30 * i) (progressBytes t) 12
+      → o ≡ putIn b (withSlot (recordAt b) i (Open (advancedBy s n last)))
+  wrote-forward i s t n last o low st e p =
+      let after : Session = advancedBy s n last in
+      p
+      ∙ ap (λ (x : Session). paste b (27 + 30 * i) (progressBytes x) 12) e
+      ∙ put-forward b (h .bytes) (h .codes) i low s (sym (ap (λ x. x .state) (slot-of b i)) ∙ st) (after .next .0) (after .granted .0) (after .mark)
+      ∙ sym (put-one b (h .bytes) (h .codes) i (Open after) low)
 
 pub seen-put : (a : Answer) (o : List ℕ) (e : Answer × List ℕ) (m l : List ℕ) → _≡_ {A = Answer × List ℕ} (a, o) e → m ≡ l → _≡_ {A = Seen} (a, (o, m)) (e .0, (e .1, l))
 seen-put a o e m l p q = ap (λ (x : Answer × List ℕ). (x .0, (x .1, m))) p ∙ ap (λ (x : List ℕ). (e .0, (e .1, x))) q

@@ -19,7 +19,7 @@ use lent_record::search::slot_in;
 use progress::brought_forward;
 use receiver::answer::Answer;
 use receiver::answer::Taken;
-use record_bytes::put::put_slot;
+use record_bytes::put::put_progress;
 use record_bytes::word::word_at;
 use session::Session;
 use session::segment::Judged;
@@ -28,7 +28,6 @@ use session::segment::is_cts_due;
 use session::segment::judge_segment;
 use session::segment::next_cts;
 use slots::Found;
-use slots::Slot;
 use slots::SlotState;
 use slots::store::store_segment;
 use transport::Key;
@@ -36,17 +35,11 @@ use transport::segment::Segment;
 
 // The session s of slot i brought forward by segment n: a CTS where a grant is used up and segments remain.
 fn take(buffer: &mut [u8], i: usize, s: Session, n: SegmentNumber) -> Answer
-    requires { ⌜ (i < 8) × (n .0 < 16777216) × (length (now buffer) ≡ 249) × Holds (now buffer) ⌝ }
+    requires { ⌜ (i < 8) × (n .0 < 16777216) × (length (now buffer) ≡ 249) × Holds (now buffer) × (getD (slotsAt (now buffer)) i freeSlot .state ≡ Open s) ⌝ }
     ensures { λ x. ⌜ (x, now (buffer .exit)) ≡ steppedIn (now (buffer .entry)) (taken (recordAt (now (buffer .entry))) i s (n .0)) ⌝ }
 {
     let after = brought_forward(s, n, word_at(buffer, 5));
-    put_slot(
-        buffer,
-        i,
-        Slot {
-            state: SlotState::Open(after),
-        },
-    );
+    put_progress(buffer, i, after);
     if is_cts_due(s, n) {
         return Answer::Grant(next_cts(s, n));
     }

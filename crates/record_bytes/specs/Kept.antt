@@ -7,19 +7,20 @@ use mathlib.Core.Bool.{Bool, true, false, cond, not, _&&_, _||_, false≢true}
 use mathlib.Core.List.{List, [], _∷_, _++_, map, append-assoc}
 use lib.Dec.{eqb}
 use lib.ListN.{length, getD, set, take, drop, length-drop, length-append, take-append-drop, List·getD-eq-default}
-use lib.Seq.{paste, drop-cons, getD-take, getD-drop, drop-drop, take-all, take-append-add, drop-append-add, drop-at, length-take-le}
+use lib.Seq.{paste, drop-cons, getD-take, getD-drop, drop-drop, take-all, take-take, take-add, take-append-add, drop-append-add, drop-at, length-take-le}
 use borrow.Author.Tests.{eqb-true, eq-eqb}
 use Rattle.laws.specs.Choice.{else}
 use Rattle.transport.specs.declared.Kind.the-variants.{Rts, Bam}
+use Rattle.session.specs.declared.Session.{Session}
 use Rattle.slots.specs.declared.Slot.{Slot}
 use Rattle.slots.specs.declared.SlotState.{SlotState}
 use Rattle.slots.specs.declared.SlotState.the-variants.{Free, Open}
 use Rattle.slots.specs.Slots.{isFree}
 use Rattle.receiver.specs.declared.Receiver.{Receiver}
 use Rattle.receiver.specs.Calls.{withSlot}
-use Rattle.record_bytes.specs.Layout.{low4, low32, kindByte, kindAt, sessionBytes, sessionAt, slotBytes, codesOk, slotAt, headBytes, pieces, piecesOf, codesAll, slotsAt, isRecord, recordAt}
+use Rattle.record_bytes.specs.Layout.{low4, low32, kindByte, kindAt, progressBytes, sessionBytes, sessionAt, slotBytes, codesOk, slotAt, headBytes, pieces, piecesOf, codesAll, slotsAt, isRecord, recordAt}
 use Rattle.record_bytes.specs.Written.{both, same-byte, low4-bytes}
-use Rattle.record_bytes.specs.Pieces.{length-slot, length-pieces, record-long, record-codes}
+use Rattle.record_bytes.specs.Pieces.{length-slot, length-pieces, piece-of, record-long, record-codes}
 use Rattle.record_bytes.specs.Keeping.{kept, merged, putIn}
 
 -- every element is a byte: what a lent slice of bytes gives
@@ -241,3 +242,41 @@ module _ (b : List ℕ) (h : Bytes b) (r : isRecord b ≡ true) where
       ∙ ap (λ (l : List ℕ). take 9 b ++ paste l (30 * i) q 30) all-joined
       ∙ sym (paste-behind (take 9 b) (drop 9 b) q 9 (30 * i) 30 (length-take-le 9 b (omega (arith, record-long b r))))
       ∙ ap (λ (l : List ℕ). paste l (9 + 30 * i) q 30) (take-append-drop 9 b)
+
+-- ---- one session brought forward
+
+good-at : (ps : List (List ℕ)) (i : ℕ) → AllGood ps → i < length ps → Good (getD ps i [])
+good-at [] i g h = absurd (omega arith)
+good-at (p ∷ ps) zero (g, gs) h = g
+good-at (p ∷ ps) (suc i) (g, gs) h = good-at ps i gs (omega arith)
+
+-- a copy whose front is there already is a copy of the rest
+paste-rest : (d x p : List ℕ) (at n m : ℕ) → take n (drop at d) ≡ x → length x ≡ n → length p ≡ m → paste d at (x ++ p) (n + m) ≡ paste d (at + n) p m
+paste-rest d x p at n m e h g =
+    let w : at + (n + m) ≡ at + n + m = omega arith in
+    ap (λ (l : List ℕ). take at d ++ l ++ drop (at + (n + m)) d) (take-all (n + m) (x ++ p) (let l : length (x ++ p) ≡ length x + length p = length-append x p in omega arith))
+    ∙ ap (λ (k : ℕ). take at d ++ (x ++ p) ++ drop k d) w
+    ∙ ap (λ (l : List ℕ). l ++ drop (at + n + m) d) (sym (append-assoc (take at d) x p) ∙ ap (λ (l : List ℕ). take at d ++ l ++ p) (sym e) ∙ ap (λ (l : List ℕ). l ++ p) (sym (take-add at n d)))
+    ∙ ap (λ (l : List ℕ). take (at + n) d ++ l ++ drop (at + n + m) d) (sym (take-all m p (omega arith)))
+
+module _ (b : List ℕ) (h : Bytes b) (r : isRecord b ≡ true) (i : ℕ) (low : i < 8) (s : Session) (st : slotAt (getD (piecesOf b) i []) .state ≡ Open s) where
+  -- an open slot's piece is the bytes of its session
+  piece-open : getD (piecesOf b) i [] ≡ sessionBytes s
+  piece-open =
+      let p : List ℕ = getD (piecesOf b) i [] in
+      sym (kept-same p (good-at (piecesOf b) i (good-record b h r) (omega (arith, length-pieces 8 (drop 9 b)))))
+      ∙ ap (λ (x : SlotState). kept p (record { state = x })) st
+
+  -- what a segment changes of a session are its last 12 bytes
+  pub put-forward : (next granted mark : ℕ)
+      → (let t : Session = record { key = s .key; kind = s .kind; total = s .total; segments = s .segments; max = s .max; pgn = s .pgn; next = record { 0 = next }; granted = record { 0 = granted }; mark = mark } in
+      paste b (27 + 30 * i) (progressBytes t) 12 ≡ paste b (9 + 30 * i) (sessionBytes t) 30)
+  unfolding sessionBytes
+  put-forward next granted mark =
+      let t : Session = record { key = s .key; kind = s .kind; total = s .total; segments = s .segments; max = s .max; pgn = s .pgn; next = record { 0 = next }; granted = record { 0 = granted }; mark = mark } in
+      let front : List ℕ = take 18 (sessionBytes s) in
+      let w : 9 + 30 * i + 18 ≡ 27 + 30 * i = omega arith in
+      let e : take 18 (drop (9 + 30 * i) b) ≡ front =
+      sym (take-take 18 30 (drop (9 + 30 * i) b) (omega arith)) ∙ ap (take 18) (sym (piece-of b i low) ∙ piece-open) in
+      ap (λ (k : ℕ). paste b k (progressBytes t) 12) (sym w)
+      ∙ sym (paste-rest b front (progressBytes t) (9 + 30 * i) 18 12 e refl refl)

@@ -31,6 +31,10 @@ kindByte Bam = 2
 abbrev pub kindAt : ℕ → Kind
 kindAt n = cond (eqb n 2) Bam Rts
 
+-- what each segment brings forward: next segment, last granted, mark
+abbrev pub progressBytes : Session → List ℕ
+progressBytes s = low4 (s .next .0) (low4 (s .granted .0) (low4 (s .mark) []))
+
 -- open: 1, kind, SA, DA, session number, Total Bytes, segments, MAX SGMTS, PGN, next segment, last granted, mark
 unfoldable pub sessionBytes : Session → List ℕ
 sessionBytes s =
@@ -41,7 +45,7 @@ sessionBytes s =
     ∷ s .key .session .0
     ∷ low4 (s .total .0)
     (low4 (s .segments .0)
-    (s .max ∷ low4 (s .pgn) (low4 (s .next .0) (low4 (s .granted .0) (low4 (s .mark) [])))))
+    (s .max ∷ low4 (s .pgn) (progressBytes s)))
 
 abbrev pub sessionAt : List ℕ → Session
 sessionAt b =

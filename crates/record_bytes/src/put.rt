@@ -7,14 +7,16 @@ ghost use lib.Dec.{eqb};
 ghost use lib.ListN.{length, getD, take};
 ghost use lib.Seq.{paste};
 ghost use Rattle.slots.specs.Slots.{isFree};
-ghost use Rattle.record_bytes.specs.Layout.{slotBytes, piecesOf};
+ghost use Rattle.record_bytes.specs.Layout.{progressBytes, slotBytes, piecesOf};
 ghost use Rattle.record_bytes.specs.Keeping.{kept, merged, putIn};
 use super::layout::HEAD_BYTES;
 use super::layout::copy;
 use super::layout::head_bytes;
 use super::slot::SLOT_BYTES;
+use super::slot::progress_bytes;
 use super::slot::slot_bytes;
 use receiver::Receiver;
+use session::Session;
 use slots::SLOTS;
 use slots::Slot;
 use slots::search::is_free;
@@ -26,6 +28,15 @@ pub fn put_slot(out: &mut [u8], i: usize, s: Slot)
 {
     let piece = slot_bytes(s);
     copy(out, HEAD_BYTES + SLOT_BYTES * i, &piece, SLOT_BYTES);
+}
+
+// Writes how far the session of slot i has come, behind the 18 bytes that stay as they were announced.
+pub fn put_progress(out: &mut [u8], i: usize, s: Session)
+    requires { ⌜ (i < 8) × (length (now out) ≡ 249) ⌝ }
+    ensures { λ _. ⌜ now (out .exit) ≡ paste (now (out .entry)) (27 + 30 * i) (progressBytes s) 12 ⌝ }
+{
+    let piece = progress_bytes(s);
+    copy(out, 27 + SLOT_BYTES * i, &piece, 12);
 }
 
 // Whether a slot is free, and was by its code.

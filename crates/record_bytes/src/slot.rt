@@ -1,7 +1,7 @@
 // A slot as bytes of a fixed layout, and back.
 ghost use mathlib.Core.Path.{_≡_};
 ghost use lib.ListN.{length};
-ghost use Rattle.record_bytes.specs.Layout.{codesOk, kindByte, kindAt, sessionBytes, sessionAt, slotBytes, slotAt};
+ghost use Rattle.record_bytes.specs.Layout.{codesOk, kindByte, kindAt, progressBytes, sessionBytes, sessionAt, slotBytes, slotAt};
 use super::word::word_at;
 use frame::Address;
 use frame::ByteCount;
@@ -64,6 +64,26 @@ fn session_bytes(s: Session) -> [u8; 30]
         low_byte(s.pgn / 256),
         low_byte(s.pgn / 65536),
         low_byte(s.pgn / 16777216),
+        low_byte(s.next.0),
+        low_byte(s.next.0 / 256),
+        low_byte(s.next.0 / 65536),
+        low_byte(s.next.0 / 16777216),
+        low_byte(s.granted.0),
+        low_byte(s.granted.0 / 256),
+        low_byte(s.granted.0 / 65536),
+        low_byte(s.granted.0 / 16777216),
+        low_byte(s.mark),
+        low_byte(s.mark / 256),
+        low_byte(s.mark / 65536),
+        low_byte(s.mark / 16777216),
+    ]
+}
+
+// How far a session has come, as its last 12 bytes say.
+pub fn progress_bytes(s: Session) -> [u8; 12]
+    ensures { λ r. ⌜ r ≡ progressBytes s ⌝ }
+{
+    [
         low_byte(s.next.0),
         low_byte(s.next.0 / 256),
         low_byte(s.next.0 / 65536),

@@ -68,7 +68,7 @@ store-segment-requires c κs = let a = c .before .before .before .before .before
 
 -- src/segment.rt:101:13
 take-requires : tie.Need-take-requires
-take-requires c κs = let a = c .before .before .before .before .before .before .before .before .before .before .before .before .before .before .args in let e = sym (c .before .before .before .before .before .before .before .before .before .judge-segment .ensures) ∙ c .before .before .before .before .before .before .before .enum-told .given .1 in (c .before .before .before .before .before .before .before .before .before .before .before .before .before .before .pre .0, omega (arith, announced-agreed (a .s) (c .before .before .before .before .before .before .before .before .before .before .before .before .before .before .pre .1), takes-in-turn (a .s) (a .sg .number .0) (a .sg .room) e), c .before .before .before .before .before .before .before .before .before .before .before .before .before .before .pre .4, c .before .before .before .before .before .before .before .before .before .before .before .before .before .before .pre .5)
+take-requires c κs = let a = c .before .before .before .before .before .before .before .before .before .before .before .before .before .before .args in let e = sym (c .before .before .before .before .before .before .before .before .before .judge-segment .ensures) ∙ c .before .before .before .before .before .before .before .enum-told .given .1 in (c .before .before .before .before .before .before .before .before .before .before .before .before .before .before .pre .0, omega (arith, announced-agreed (a .s) (c .before .before .before .before .before .before .before .before .before .before .before .before .before .before .pre .1), takes-in-turn (a .s) (a .sg .number .0) (a .sg .room) e), c .before .before .before .before .before .before .before .before .before .before .before .before .before .before .pre .4, c .before .before .before .before .before .before .before .before .before .before .before .before .before .before .pre .5, c .before .before .before .before .before .before .before .before .before .before .before .before .before .before .pre .6)
 
 -- src/segment.rt:82:1
 returns : tie.Need-returns

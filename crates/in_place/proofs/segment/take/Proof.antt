@@ -3,14 +3,15 @@ use denote.Ref.{now}
 use Rattle.laws.specs.Choice.{then, else}
 use Rattle.session.specs.Segments.{advancedBy}
 use Rattle.receiver.specs.declared.answer.Answer.the-variants.{Grant}
-use Rattle.in_place_control.proofs.Writes.{wrote-open, answered-put}
+use Rattle.in_place_control.proofs.Writes.{answered-put}
+use Rattle.in_place.proofs.Steps.{wrote-forward}
 use borrow.Author.Needs.{needs}
 use Rattle.in_place.proofs.segment.take.Statement.{statement}
 use Rattle.in_place.proofs.segment.take.Tie as tie
 use Rattle.in_place.proofs.segment.take.Reads as reads
 use Rattle.in_place.proofs.segment.take.Lts as lts
 use Rattle.progress.proofs.brought_forward.Reads as brought-forward-reads
-use Rattle.record_bytes.proofs.put.put_slot.Reads as put-slot-reads
+use Rattle.record_bytes.proofs.put.put_progress.Reads as put-progress-reads
 use Rattle.record_bytes.proofs.word.word_at.Reads as word-at-reads
 use Rattle.session.proofs.segment.is_cts_due.Reads as is-cts-due-reads
 use Rattle.session.proofs.segment.next_cts.Reads as next-cts-reads
@@ -24,8 +25,8 @@ brought-forward-requires : tie.Need-brought-forward-requires
 brought-forward-requires c κs = search needs
 
 -- src/segment.rt:42:5
-put-slot-requires : tie.Need-put-slot-requires
-put-slot-requires c κs = search needs
+put-progress-requires : tie.Need-put-progress-requires
+put-progress-requires c κs = search needs
 
 -- src/segment.rt:49:8
 is-cts-due-requires : tie.Need-is-cts-due-requires
@@ -41,7 +42,7 @@ same-length c = search needs
 
 -- src/segment.rt:50:9
 returns : tie.Need-returns
-returns c = answered-put _ _ _ _ (then _ _ _ _ (sym (c .before .before .is-cts-due .ensures) ∙ c .before .if1 .taken) (ap Grant (c .next-cts .ensures))) (wrote-open (now (c .before .before .before .before .before .before .before .before .before .before .before .args .buffer)) (c .before .before .before .before .before .before .before .before .before .before .before .pre .3) (c .before .before .before .before .before .before .before .before .before .before .before .args .i) _ (c .before .before .before .before .before .before .before .brought-forward .result) (c .before .before .before .before .before .put-slot .last .0) (c .before .before .before .before .before .before .before .before .before .before .before .pre .0) (c .before .before .before .before .before .before .before .brought-forward .ensures ∙ ap (advancedBy (c .before .before .before .before .before .before .before .before .before .before .before .args .s) (c .before .before .before .before .before .before .before .before .before .before .before .args .n .0)) (c .before .before .before .before .before .before .before .before .word-at .ensures)) (c .before .before .before .before .before .put-slot .ensures))
+returns c = answered-put _ _ _ _ (then _ _ _ _ (sym (c .before .before .is-cts-due .ensures) ∙ c .before .if1 .taken) (ap Grant (c .next-cts .ensures))) (wrote-forward (now (c .before .before .before .before .before .before .before .before .before .before .before .args .buffer)) (c .before .before .before .before .before .before .before .before .before .before .before .pre .3) (c .before .before .before .before .before .before .before .before .before .before .before .args .i) (c .before .before .before .before .before .before .before .before .before .before .before .args .s) (c .before .before .before .before .before .before .before .brought-forward .result) (c .before .before .before .before .before .before .before .before .before .before .before .args .n .0) _ (c .before .before .before .before .before .put-progress .last .0) (c .before .before .before .before .before .before .before .before .before .before .before .pre .0) (c .before .before .before .before .before .before .before .before .before .before .before .pre .4) (c .before .before .before .before .before .before .before .brought-forward .ensures ∙ ap (advancedBy (c .before .before .before .before .before .before .before .before .before .before .before .args .s) (c .before .before .before .before .before .before .before .before .before .before .before .args .n .0)) (c .before .before .before .before .before .before .before .before .word-at .ensures)) (c .before .before .before .before .before .put-progress .ensures))
 
 -- src/segment.rt:37:1
 same-length-2 : tie.Need-same-length-2
@@ -49,7 +50,7 @@ same-length-2 c = search needs
 
 -- src/segment.rt:37:1
 returns-2 : tie.Need-returns-2
-returns-2 c = answered-put _ _ _ _ (else _ _ _ _ (sym (c .before .before .is-cts-due .ensures) ∙ c .before .if1 .left) refl) (wrote-open (now (c .before .before .before .before .before .before .before .before .before .before .before .args .buffer)) (c .before .before .before .before .before .before .before .before .before .before .before .pre .3) (c .before .before .before .before .before .before .before .before .before .before .before .args .i) _ (c .before .before .before .before .before .before .before .brought-forward .result) (c .before .before .before .before .before .put-slot .last .0) (c .before .before .before .before .before .before .before .before .before .before .before .pre .0) (c .before .before .before .before .before .before .before .brought-forward .ensures ∙ ap (advancedBy (c .before .before .before .before .before .before .before .before .before .before .before .args .s) (c .before .before .before .before .before .before .before .before .before .before .before .args .n .0)) (c .before .before .before .before .before .before .before .before .word-at .ensures)) (c .before .before .before .before .before .put-slot .ensures))
+returns-2 c = answered-put _ _ _ _ (else _ _ _ _ (sym (c .before .before .is-cts-due .ensures) ∙ c .before .if1 .left) refl) (wrote-forward (now (c .before .before .before .before .before .before .before .before .before .before .before .args .buffer)) (c .before .before .before .before .before .before .before .before .before .before .before .pre .3) (c .before .before .before .before .before .before .before .before .before .before .before .args .i) (c .before .before .before .before .before .before .before .before .before .before .before .args .s) (c .before .before .before .before .before .before .before .brought-forward .result) (c .before .before .before .before .before .before .before .before .before .before .before .args .n .0) _ (c .before .before .before .before .before .put-progress .last .0) (c .before .before .before .before .before .before .before .before .before .before .before .pre .0) (c .before .before .before .before .before .before .before .before .before .before .before .pre .4) (c .before .before .before .before .before .before .before .brought-forward .ensures ∙ ap (advancedBy (c .before .before .before .before .before .before .before .before .before .before .before .args .s) (c .before .before .before .before .before .before .before .before .before .before .before .args .n .0)) (c .before .before .before .before .before .before .before .before .word-at .ensures)) (c .before .before .before .before .before .put-progress .ensures))
 
 pub take-spec : {M : Type 1} → statement M
 take-spec =
@@ -57,7 +58,7 @@ take-spec =
     (tie.spec
     word-at-requires
     brought-forward-requires
-    put-slot-requires
+    put-progress-requires
     is-cts-due-requires
     next-cts-requires
     same-length
