@@ -1,41 +1,78 @@
-/* 01's whole case over the C boundary: a Multi-PG frame, an RTS that is granted, a segment out of sequence.
-   Build: cc -Iinclude examples/whole_case.c target/staticlib/liblink.a -o target/whole_case */
+/* 01's whole case over the boundary for C, with the lines that 01 gives for it: a reading, a Multi-PG frame, an RTS that is granted,
+   a segment out of sequence.
+
+       cc -std=c11 -Iinclude examples/whole_case.c target/staticlib/liblink.a -o target/whole_case */
 #include "dwaebinam.h"
 
 #include <stdio.h>
 
+/* All memory is ours: the link allocates nothing and keeps no pointer. */
 static uint8_t record[DWB_RECORD_BYTES];
 static uint8_t store[DWB_STORE_BYTES];
 static uint8_t answer[DWB_ANSWER_BYTES];
+static uint8_t answers[DWB_ANSWERS_BYTES];
+static uint32_t groups[DWB_GROUPS_WORDS];
+static unsigned taken;
 
-static uint32_t word(const uint8_t *at)
+static unsigned long number_at(const uint8_t *place)
 {
-    return at[0] | (uint32_t)at[1] << 8 | (uint32_t)at[2] << 16 | (uint32_t)at[3] << 24;
+    return place[0] | (unsigned long)place[1] << 8 | (unsigned long)place[2] << 16 | (unsigned long)place[3] << 24;
 }
 
-static void take(uint32_t id, const uint8_t *bytes, size_t n)
+/* Byte 19 of an answer says whether a frame is to go out. A controller would now send it: identifier from byte 20, data from 24. */
+static void print_answer(const uint8_t *a)
 {
-    unsigned number = dwb_frame(record, sizeof record, id, bytes, n, store, sizeof store, answer, sizeof answer);
-    printf("number %u code %u", number, answer[1]);
-    if (answer[19]) {
-        printf(" send %08lX", (unsigned long)word(answer + 20));
-        for (int i = 24; i < 36; i++)
-            printf(" %02X", answer[i]);
+    switch (a[1]) {
+    case DWB_GRANT:
+        printf("send cts %d %d %lu %d\n", a[2], a[4], number_at(a + 15), a[6]);
+        break;
+    case DWB_ENDED:
+        printf("%s %d %d %d\n", a[19] ? "send abort" : "ended", a[2], a[4], a[0]);
+        break;
+    default: /* the other codes do not come up in this case */
+        printf("code %d number %d\n", a[1], a[0]);
     }
-    printf("\n");
+}
+
+/* The frame was judged when it was taken, so its groups are not refused here. */
+static void print_groups(uint32_t id, const uint8_t *bytes, size_t length)
+{
+    size_t count = dwb_groups(bytes, length, groups, DWB_GROUPS_WORDS);
+    for (const uint32_t *g = groups; g < groups + 3 * count; g += 3)
+        printf("pg %d %d %lu %lu\n", (int)(id & 255), (int)(id >> 8 & 255), (unsigned long)g[0], (unsigned long)g[2]);
+}
+
+static void take_reading(uint32_t reading)
+{
+    dwb_reading(record, sizeof record, reading, store, sizeof store, answers, sizeof answers);
+    for (const uint8_t *a = answers; a < answers + sizeof answers; a += DWB_ANSWER_BYTES)
+        if (a[1] == DWB_ENDED)
+            print_answer(a);
+    taken++;
+}
+
+static void take_frame(uint32_t id, const uint8_t *bytes, size_t length)
+{
+    dwb_frame(record, sizeof record, id, bytes, length, store, sizeof store, answer, sizeof answer);
+    if (answer[1] == DWB_GROUPS)
+        print_groups(id, bytes, length);
+    else
+        print_answer(answer);
+    taken++;
 }
 
 int main(void)
 {
-    static const uint8_t groups[] = {0x40, 0xEA, 0x00, 0x03, 0xCA, 0xFE, 0x00};
+    static const uint8_t multi_pg[] = {0x40, 0xEA, 0x00, 3, 0xCA, 0xFE, 0x00};
     static const uint8_t rts[] = {0x30, 61, 0, 0, 2, 0, 0, 255, 0, 0xCA, 0xFE, 0x00};
-    static const uint8_t segment[] = {0x30, 0x02, 0x00, 0x00, 0x11};
+    static const uint8_t segment_2[] = {0x30, 2, 0, 0, 0x11};
 
-    printf("open %u\n", dwb_open(record, sizeof record, 33, 1250, 0));
-    printf("least length for 7: %zu\n", dwb_least_length(7));
-    take(0x18252180, groups, sizeof groups);
-    take(0x1C4D2180, rts, sizeof rts);
-    take(0x1C4E2180, segment, sizeof segment);
-    printf("short record: %u\n", dwb_frame(record, 5, 0, groups, 0, store, sizeof store, answer, sizeof answer));
+    if (dwb_open(record, sizeof record, 33, 1250, 0) != 0)
+        return 1;
+    take_reading(0);
+    take_frame(0x18252180, multi_pg, sizeof multi_pg);
+    take_frame(0x1C4D2180, rts, sizeof rts);
+    take_frame(0x1C4E2180, segment_2, sizeof segment_2);
+    printf("end %u\n", taken);
     return 0;
 }
