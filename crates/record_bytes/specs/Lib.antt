@@ -4,3 +4,4 @@ pub mod Pieces
 pub mod Keeping
 pub mod Kept
 pub mod RoundTrip
+pub mod Carried

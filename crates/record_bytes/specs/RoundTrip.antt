@@ -80,7 +80,7 @@ session-back s f =
     ∙ ap (λ (x : ℕ). made (s .kind) (s .total .0) (s .segments .0) (s .pgn) (s .next .0) x (W (s .mark))) (low32-read-back (s .granted .0) (f .granted))
     ∙ ap (λ (x : ℕ). made (s .kind) (s .total .0) (s .segments .0) (s .pgn) (s .next .0) (s .granted .0) x) (low32-read-back (s .mark) (f .mark))
 
-state-back : (st : SlotState) → StateFits st → slotAt (stateBytes st) ≡ record { state = st }
+pub state-back : (st : SlotState) → StateFits st → slotAt (stateBytes st) ≡ record { state = st }
 unfolding sessionBytes
 state-back Free f = refl
 state-back (Open s) f = ap (λ (x : Session). record { state = Open x }) (session-back s f)
@@ -95,7 +95,7 @@ kind-code : (k : Kind) → (eqb (kindByte k) 1 || eqb (kindByte k) 2) ≡ true
 kind-code Rts = refl
 kind-code Bam = refl
 
-codes-state : (st : SlotState) → codesOk (getD (stateBytes st) 0 0) (getD (stateBytes st) 1 0) ≡ true
+pub codes-state : (st : SlotState) → codesOk (getD (stateBytes st) 0 0) (getD (stateBytes st) 1 0) ≡ true
 unfolding sessionBytes
 codes-state Free = refl
 codes-state (Open s) = kind-code (s .kind)
