@@ -38,13 +38,15 @@ pub fn opening_ok(own: Address, limit: u32) -> bool
 fn announced_ok(s: Session) -> bool
     ensures { λ r. ⌜ r ≡ announcedOk s ⌝ }
 {
-    let total = s.total.0;
-    if !((1 <= total) & (total <= 4096)) {
-        return false;
-    }
+    let total = s.total.0 as u64;
+    let segments = s.segments.0 as u64;
     let kind = s.kind;
     let rts = is_rts(kind);
-    (s.segments.0 == (total + 59) / 60) & pgn::is_pgn(s.pgn) & (!rts | (1 <= s.max))
+    (1 <= total)
+        & (total <= 4096)
+        & (segments == (total + 59) / 60)
+        & pgn::is_pgn(s.pgn)
+        & (!rts | (1 <= s.max))
 }
 
 // SA, DA and session number are such as are taken here.
@@ -75,13 +77,7 @@ fn progress_ok(s: Session) -> bool
 pub fn session_ok(s: Session, own: Address) -> bool
     ensures { λ r. ⌜ r ≡ sessionOk own s ⌝ }
 {
-    if !announced_ok(s) {
-        return false;
-    }
-    if !key_ok(s, own) {
-        return false;
-    }
-    progress_ok(s)
+    announced_ok(s) & key_ok(s, own) & progress_ok(s)
 }
 
 fn slot_ok(s: Slot, own: Address) -> bool
