@@ -1,3 +1,4 @@
 pub mod Fits
 pub mod Step
 pub mod Run
+pub mod Demand3

@@ -45,7 +45,7 @@ pub record Reads (x : ℕ × (List ℕ × List ℕ)) (e : Elapsed) : Type 0 wher
   pub next : Holds (x .1 .0) (e .next)
 
 module _ (b : List ℕ) (is : isRecord b ≡ true) where
-  put-holds : (r : Receiver) → RecordFits r → Holds (putIn b r) r
+  pub put-holds : (r : Receiver) → RecordFits r → Holds (putIn b r) r
   put-holds r f = record { codes = put-is-record b (record-long b is) r f; reads = put-read b (record-long b is) r f }
 
   -- One frame, refused or not: 23 too.
