@@ -1,7 +1,7 @@
 -- Demand 3 of document 01 over the boundary: no session can disturb another, for a program in C that lends the bytes.
 use Prim.Native.Nat.{ℕ, _<_}
 use native.Mathlib.Omega.{arith}
-use mathlib.Core.Path.{_≡_, refl, sym, ap, _∙_, subst}
+use mathlib.Core.Path.{_≡_, refl, sym, _∙_, subst}
 use mathlib.Core.Bool.{Bool, true, false, cond, not}
 use mathlib.Core.List.{List}
 use lib.Dec.{eqb}
@@ -10,12 +10,11 @@ use Rattle.frame.specs.declared.Address.{Address}
 use Rattle.frame.specs.declared.refusal.Refusal.the-variants.{OutOfBounds}
 use Rattle.slots.specs.Bounds.{openingOk}
 use Rattle.receiver.specs.declared.Receiver.{Receiver}
-use Rattle.receiver.specs.declared.answer.Opening.{Opening}
 use Rattle.receiver.specs.declared.answer.Opening.the-variants.{Accepted, Refused}
 use Rattle.receiver.specs.Bounds.{opened, openedWith}
 use Rattle.record_bytes.specs.Layout.{recordBytes}
 use Rattle.record_bytes.specs.RoundTrip.{is-record, read-back}
-use Rattle.link.specs.Calls.{openingNumber, openedIn}
+use Rattle.link.specs.Calls.{openedIn}
 use Rattle.isolation.specs.Rules.{Values, fresh, outputs}
 use Rattle.isolation.specs.World.{told}
 use Rattle.isolation.proofs.Demand3.{opens-in-bounds, demand-3}

@@ -21,7 +21,7 @@ use Rattle.isolation.specs.Observe.{frameSeen, frameElsewhere, readingSeen, rea
 use Rattle.isolation.proofs.Demand3.{Sound, stays-in-bounds}
 use Rattle.carried.specs.Fitting.{Narrow}
 use Rattle.carried.specs.Crossed.{Given, Lending, Proper, AllProper, frameGives, gives, bytesAfter, storeLeft, givesOver, bytesOver, leftOver, callsOf, answerGiven, endsGiven, answers, answersOver}
-use Rattle.carried.specs.Shown.{outcomeOf, outcomeIn, elapsedOf, elapsedIn, shown, shownOver}
+use Rattle.carried.specs.Shown.{outcomeOf, elapsedOf, shown, shownOver}
 use Rattle.carried.proofs.Fits.{record-fits, frame-narrow, reading-narrow}
 use Rattle.carried.proofs.Step.{Holds, Frames, Reads, put-holds, frame-step, reading-step, framed-is}
 

@@ -1,6 +1,6 @@
 -- What a record in bounds must hold besides, so that each of its numbers has its place in four bytes: the last reading, and of each open
 -- session the last granted segment and the mark.
-use Prim.Native.Nat.{ℕ, _<_}
+use Prim.Native.Nat.{_<_}
 use mathlib.Core.List.{List, [], _∷_}
 use Rattle.slots.specs.declared.Slot.{Slot}
 use Rattle.slots.specs.declared.SlotState.{SlotState}
