@@ -63,13 +63,14 @@ module _ (own limit first : ℕ) (d : List ℕ) (zero-answered : openedIn own li
       subst (λ (b : List ℕ). Holds b O) (sym (opens own limit first d zero-answered .1))
       (record { codes = is-record O (fine-fits O m opened-fine); reads = read-back O (fine-fits O m opened-fine) })
 
-  -- After an opening that is answered 0, over any store of 32,768 bytes and any list of calls, each with room for its answer and its
-  -- reading of 32 bits: every call gives the number and the bytes of the receiver's own answer at that call, the store is the
-  -- receiver's, the bytes hold the receiver's record, and the calls show for each key what the receiver's do.
+  -- After an opening that is answered 0, over any store of 32,768 bytes and any list of calls, each with room for its answer, its frame
+  -- of bytes or its reading of 32 bits: every call gives the number and the bytes of the receiver's own answer at that call, the store
+  -- is the receiver's, the bytes hold the receiver's record, and what is read off them for a key is what the receiver shows for it.
   pub boundary-carries : (ls : List Lending) → AllProper ls → Carried O (openedIn own limit first d .1) m ls
   boundary-carries ls p = carried O (openedIn own limit first d .1) m opened-holds opened-fine ls p
 
-  -- DEMAND 3 OVER THE BOUNDARY. What those calls show for a key is what the rules of that key by itself put out.
+  -- DEMAND 3 OVER THE BOUNDARY. What a program in C reads off its bytes for a key is what the rules of that key by itself put out,
+  -- whatever the other keys do.
   pub demand-3-carried : (ls : List Lending) → AllProper ls → (k : ℕ)
       → let v : Values = record { own = record { 0 = own }; limit = limit } in
       shownOver v k (openedIn own limit first d .1) m ls ≡ outputs v k (fresh first) (told v (λ j. fresh first) k (callsOf ls))

@@ -93,7 +93,7 @@ narrow-set [] i s h g = tt
 narrow-set (x ∷ l) zero s (h, hs) g = (g, hs)
 narrow-set (x ∷ l) (suc i) s (h, hs) g = (h, narrow-set l i s hs g)
 
-fits-at : (l : List Slot) (i : ℕ) → SlotsFit l → StateFits (getD l i freeSlot .state)
+pub fits-at : (l : List Slot) (i : ℕ) → SlotsFit l → StateFits (getD l i freeSlot .state)
 fits-at [] i h = tt
 fits-at (x ∷ l) zero (h, hs) = h
 fits-at (x ∷ l) (suc i) (h, hs) = fits-at l i hs

@@ -6,14 +6,18 @@ use mathlib.Core.List.{List, [], _∷_, _++_}
 use lib.ListN.{length}
 use Rattle.receiver.specs.declared.Receiver.{Receiver}
 use Rattle.receiver.specs.declared.answer.Answer.{Answer}
+use Rattle.receiver.specs.declared.answer.SlotEnd.{SlotEnd}
+use Rattle.receiver.specs.declared.answer.Kept.{Kept}
 use Rattle.receiver.specs.declared.answer.Elapsed.{Elapsed}
 use Rattle.receiver.specs.Bounds.{inBounds}
 use Rattle.receiver.specs.Calls.{Outcome, frameAll, readingStep}
 use Rattle.record_bytes.specs.Layout.{isRecord, recordAt}
 use Rattle.record_bytes.specs.RoundTrip.{RecordFits}
 use Rattle.in_place.specs.Seen.{Seen, frameIn}
+use Rattle.answer_bytes.specs.Answers.{answerBytes}
+use Rattle.answer_bytes.specs.Ends.{endsBytes}
 use Rattle.link.specs.Calls.{told, framedIn}
-use Rattle.link.specs.Reading.{readIn}
+use Rattle.link.specs.Reading.{keptNumber, readIn}
 use Rattle.isolation.specs.Rules as rules
 use Rattle.isolation.specs.Rules.{Values}
 use Rattle.isolation.specs.World.{frame, clock, lent, elsewhere}
@@ -21,9 +25,12 @@ use Rattle.isolation.specs.Observe.{frameSeen, frameElsewhere, readingSeen, rea
 use Rattle.isolation.proofs.Demand3.{Sound, stays-in-bounds}
 use Rattle.carried.specs.Fitting.{Narrow}
 use Rattle.carried.specs.Crossed.{Given, Lending, Proper, AllProper, frameGives, gives, bytesAfter, storeLeft, givesOver, bytesOver, leftOver, callsOf, answerGiven, endsGiven, answers, answersOver}
+use Rattle.carried.specs.ReadBack.{answerAt, endsAt, keptAt}
 use Rattle.carried.specs.Shown.{outcomeOf, elapsedOf, shown, shownOver}
 use Rattle.carried.proofs.Fits.{record-fits, frame-narrow, reading-narrow}
-use Rattle.carried.proofs.Step.{Holds, Frames, Reads, put-holds, frame-step, reading-step, framed-is}
+use Rattle.carried.proofs.Step.{Holds, Frames, Reads, frame-step, reading-step, framed-is}
+use Rattle.carried.proofs.ReadBack.{AnswerFits, EndsFit, answer-back, ends-back}
+use Rattle.carried.proofs.Answers.{frame-answers, reading-number, reading-eight, reading-ends}
 
 -- ---- what is kept from call to call
 
@@ -38,9 +45,9 @@ fine-fits r m h = record-fits r (h .bounds) (h .eight) (h .narrow)
 
 narrow-after : (r : Receiver) (m : List ℕ) → Fine r m → (l : Lending) → Proper l → Narrow (recordAfter r m (l .0))
 unfolding recordAfter
-narrow-after r m h (lent (frame id d), a) p = frame-narrow r (h .narrow) (fine-fits r m h) id d m
+narrow-after r m h (lent (frame id d), a) (p, q) = frame-narrow r (h .narrow) (fine-fits r m h) id d m
 narrow-after r m h (lent (clock t), a) (p, q) = reading-narrow r (h .narrow) (fine-fits r m h) t m q
-narrow-after r m h (elsewhere o e (frame id d), a) p = frame-narrow r (h .narrow) (fine-fits r m h) id d o
+narrow-after r m h (elsewhere o e (frame id d), a) (p, q) = frame-narrow r (h .narrow) (fine-fits r m h) id d o
 narrow-after r m h (elsewhere o e (clock t), a) (p, q) = reading-narrow r (h .narrow) (fine-fits r m h) t o q
 
 pub fine-after : (r : Receiver) (m : List ℕ) → Fine r m → (l : Lending) → Proper l → Fine (recordAfter r m (l .0)) (storeAfter r m (l .0))
@@ -63,28 +70,33 @@ told-given x o f = ap answerGiven (f .answer)
 reads-given : (x : ℕ × (List ℕ × List ℕ)) (e : Elapsed) → Reads x e → _≡_ {A = Given} (x .0, x .1 .1) (endsGiven e)
 reads-given x e f = ap₂ (λ (n : ℕ) (l : List ℕ). (n, l)) (f .number) (f .answers)
 
-outcome-same : (x : Seen) (o : Outcome) → Frames x o → outcomeOf x ≡ o
-outcome-same x o f =
-    ap (λ (r : Receiver). (record { next = r; answer = x .0 }, x .1 .1)) (f .next .reads)
-    ∙ ap₂ (λ (a : Answer) (m : List ℕ). (record { next = o .0 .next; answer = a }, m)) (f .answer) (f .store)
+outcome-same : (x : Seen) (o : Outcome) → Frames x o → AnswerFits (o .0 .answer) → outcomeOf (told x) ≡ o
+outcome-same x o f g =
+    ap (λ (r : Receiver). (record { next = r; answer = answerAt (answerBytes (x .0)) }, x .1 .1)) (f .next .reads)
+    ∙ ap₂ (λ (a : Answer) (m : List ℕ). (record { next = o .0 .next; answer = answerAt (answerBytes a) }, m)) (f .answer) (f .store)
+    ∙ ap (λ (a : Answer). (record { next = o .0 .next; answer = a }, o .1)) (answer-back (o .0 .answer) g)
 
-elapsed-same : (b : List ℕ) → isRecord b ≡ true → (x : Elapsed) → RecordFits (x .next) → elapsedOf b x ≡ x
-elapsed-same b is x f = ap (λ (r : Receiver). record { next = r; answer = x .answer; ends = x .ends }) (put-holds b is (x .next) f .reads)
+elapsed-same : (x : ℕ × (List ℕ × List ℕ)) (e : Elapsed) → Reads x e → keptAt (keptNumber (e .answer)) ≡ e .answer → length (e .ends) ≡ 8 → EndsFit (e .ends) → elapsedOf x ≡ e
+elapsed-same x e f n l g =
+    ap (λ (r : Receiver). record { next = r; answer = keptAt (x .0); ends = endsAt 8 (x .1 .1) }) (f .next .reads)
+    ∙ ap₂ (λ (i : ℕ) (z : List ℕ). record { next = e .next; answer = keptAt i; ends = endsAt 8 z }) (f .number) (f .answers)
+    ∙ ap₂ (λ (a : Kept) (z : List SlotEnd). record { next = e .next; answer = a; ends = z }) n
+    (ap (λ (i : ℕ). endsAt i (endsBytes (e .ends))) (sym l) ∙ ends-back (e .ends) g)
 
-module _ (b m : List ℕ) (is : isRecord b ≡ true) where
+module _ (b m : List ℕ) (is : isRecord b ≡ true) (fit : RecordFits (recordAt b)) where
   abbrev R : Receiver
   R = recordAt b
 
   same-by : (l : Lending) → Proper l → RecordFits (recordAfter R m (l .0)) → Same R b m l
   unfolding gives answers storeLeft storeAfter bytesAfter recordAfter shown shows
-  same-by (lent (frame id d), a) p f =
+  same-by (lent (frame id d), a) (p, q) f =
       let g : Frames (frameIn b id d m) (frameAll R id d m) = frame-step b is id d m f in
       let e : framedIn b id d m a ≡ told (frameIn b id d m) = framed-is b id d m a p in
       record {
         given = ap frameGives e ∙ told-given (frameIn b id d m) (frameAll R id d m) g;
         store = ap (λ (x : ℕ × (List ℕ × (List ℕ × List ℕ))). x .1 .1 .0) e ∙ g .store;
         next = subst (λ (x : ℕ × (List ℕ × (List ℕ × List ℕ))). Holds (x .1 .0) (frameAll R id d m .0 .next)) (sym e) (g .next);
-        shows-it = λ v k. ap (frameSeen v k R id d) (outcome-same (frameIn b id d m) (frameAll R id d m) g);
+        shows-it = λ v k. ap (frameSeen v k R id d) (ap outcomeOf e ∙ outcome-same (frameIn b id d m) (frameAll R id d m) g (frame-answers R fit id d m q));
       }
   same-by (lent (clock t), a) (p, q) f =
       let g : Reads (readIn b t m a) (readingStep R t m) = reading-step b is t m a p f in
@@ -92,16 +104,16 @@ module _ (b m : List ℕ) (is : isRecord b ≡ true) where
         given = reads-given (readIn b t m a) (readingStep R t m) g;
         store = refl;
         next = g .next;
-        shows-it = λ v k. ap (readingSeen k) (elapsed-same b is (readingStep R t m) f);
+        shows-it = λ v k. ap (readingSeen k) (elapsed-same (readIn b t m a) (readingStep R t m) g (reading-number R t m) (reading-eight R fit t m) (reading-ends R fit t m));
       }
-  same-by (elsewhere o z (frame id d), a) p f =
+  same-by (elsewhere o z (frame id d), a) (p, q) f =
       let g : Frames (frameIn b id d o) (frameAll R id d o) = frame-step b is id d o f in
       let e : framedIn b id d o a ≡ told (frameIn b id d o) = framed-is b id d o a p in
       record {
         given = ap frameGives e ∙ told-given (frameIn b id d o) (frameAll R id d o) g;
         store = refl;
         next = subst (λ (x : ℕ × (List ℕ × (List ℕ × List ℕ))). Holds (x .1 .0) (frameAll R id d o .0 .next)) (sym e) (g .next);
-        shows-it = λ v k. ap (frameElsewhere v k R id d) (outcome-same (frameIn b id d o) (frameAll R id d o) g);
+        shows-it = λ v k. ap (frameElsewhere v k R id d) (ap outcomeOf e ∙ outcome-same (frameIn b id d o) (frameAll R id d o) g (frame-answers R fit id d o q));
       }
   same-by (elsewhere o z (clock t), a) (p, q) f =
       let g : Reads (readIn b t o a) (readingStep R t o) = reading-step b is t o a p f in
@@ -109,7 +121,7 @@ module _ (b m : List ℕ) (is : isRecord b ≡ true) where
         given = reads-given (readIn b t o a) (readingStep R t o) g;
         store = refl;
         next = g .next;
-        shows-it = λ v k. ap (readingElsewhere k R) (elapsed-same b is (readingStep R t o) f);
+        shows-it = λ v k. ap (readingElsewhere k R) (elapsed-same (readIn b t o a) (readingStep R t o) g (reading-number R t o) (reading-eight R fit t o) (reading-ends R fit t o));
       }
 
 pub same-call : (r : Receiver) (b m : List ℕ) → Holds b r → Fine r m → (l : Lending) → Proper l → Same r b m l
@@ -117,7 +129,8 @@ same-call r b m k h l p =
     let n : Fine (recordAfter r m (l .0)) (storeAfter r m (l .0)) = fine-after r m h l p in
     let f : RecordFits (recordAfter r m (l .0)) = fine-fits (recordAfter r m (l .0)) (storeAfter r m (l .0)) n in
     subst (λ (x : Receiver). Same x b m l) (k .reads)
-    (same-by b m (k .codes) l p (subst (λ (x : Receiver). RecordFits (recordAfter x m (l .0))) (sym (k .reads)) f))
+    (same-by b m (k .codes) (subst RecordFits (sym (k .reads)) (fine-fits r m h)) l p
+    (subst (λ (x : Receiver). RecordFits (recordAfter x m (l .0))) (sym (k .reads)) f))
 
 -- ---- a list of calls
 

@@ -8,6 +8,7 @@ use Rattle.receiver.specs.declared.answer.Answer.{Answer}
 use Rattle.receiver.specs.declared.answer.Elapsed.{Elapsed}
 use Rattle.receiver.specs.Calls.{frameStep, readingStep}
 use Rattle.receiver.specs.Answers.{answerNumber}
+use Rattle.record_bytes.specs.Kept.{Bytes}
 use Rattle.answer_bytes.specs.Answers.{answerBytes}
 use Rattle.answer_bytes.specs.Ends.{endsBytes}
 use Rattle.link.specs.Calls.{framedIn}
@@ -25,11 +26,11 @@ Given = ℕ × List ℕ
 abbrev pub Lending : Type 0
 Lending = Call × List ℕ
 
--- room of the right length, and a reading of 32 bits
+-- room of the right length, a frame of bytes, and a reading of 32 bits
 abbrev pub Proper : Lending → Type 0
-Proper (lent (frame id d), a) = length a ≡ 36
+Proper (lent (frame id d), a) = (length a ≡ 36) × Bytes d
 Proper (lent (clock t), a) = (length a ≡ 288) × (t < 4294967296)
-Proper (elsewhere o e (frame id d), a) = length a ≡ 36
+Proper (elsewhere o e (frame id d), a) = (length a ≡ 36) × Bytes d
 Proper (elsewhere o e (clock t), a) = (length a ≡ 288) × (t < 4294967296)
 
 abbrev pub AllProper : List Lending → Type 0
