@@ -1,6 +1,6 @@
 //! Both sides give equal answers: an answer and a record of the plain receiver as include/dwaebinam.h lays them out.
 
-use crate::boundary::{Ours, ANSWER_BYTES, RECORD_BYTES, STORE_BYTES};
+use crate::ours::{Ours, ANSWER_BYTES, RECORD_BYTES, STORE_BYTES};
 use crate::frames::{Frame, LIMIT, OWN};
 use crate::plain::receiver::{Answer, Key, Receiver, Sent};
 
@@ -152,9 +152,8 @@ pub fn compare<const CHECKED: bool>(name: &str, frames: &[Frame]) -> [usize; 256
     seen
 }
 
-#[cfg(feature = "groups")]
 pub fn compare_groups(name: &str, frames: &[Frame]) {
-    use crate::boundary::{self, GROUPS_WORDS};
+    use crate::ours::GROUPS_WORDS;
     use crate::plain::{self, Group, MOST_GROUPS};
     for (i, frame) in frames.iter().enumerate() {
         let mut expected = [0xdead; GROUPS_WORDS];
@@ -172,9 +171,8 @@ pub fn compare_groups(name: &str, frames: &[Frame]) {
     }
 }
 
-#[cfg(feature = "pack")]
 pub fn compare_pack(name: &str, requests: &[crate::frames::Request]) {
-    use crate::{boundary, plain};
+    use crate::plain;
     for (i, r) in requests.iter().enumerate() {
         let (mut out, mut expected) = ([0x55; 64], [0x55; 64]);
         let result = plain::pack(&r.pgns, &r.lengths, &r.data, &mut expected);

@@ -5,16 +5,13 @@
 //!     link cases                     the names of the cases
 //!     link run CASE SIDE ROUNDS      one side of one case, for counting its instructions
 
-// Until the archive exports all.
-#![cfg_attr(not(all(feature = "groups", feature = "pack")), allow(dead_code))]
-
-mod boundary;
 mod equal;
 mod frames;
+mod ours;
 mod plain;
 
-use boundary::{Ours, STORE_BYTES};
 use frames::{Frame, Sender, LIMIT, OWN};
+use ours::{Ours, STORE_BYTES};
 use plain::receiver::{Answer, Receiver};
 use std::hint::black_box;
 use std::time::Instant;
@@ -38,7 +35,6 @@ struct Case {
 }
 
 /// Uses a result as a caller would. A black box over the whole of it would read back in one piece what was written in two, and wait.
-#[cfg(any(feature = "groups", feature = "pack"))]
 #[inline(always)]
 fn consume(result: Result<usize, plain::Refusal>) {
     match result {
@@ -98,10 +94,9 @@ fn frame_case(name: &'static str, open: &[Sender], frames: &[Frame]) -> Case {
     }
 }
 
-#[cfg(feature = "groups")]
 mod with_groups {
     use super::*;
-    use boundary::GROUPS_WORDS;
+    use ours::GROUPS_WORDS;
     use plain::{Group, MOST_GROUPS};
 
     fn ours_groups(frames: &[Frame]) -> Side {
@@ -192,7 +187,6 @@ mod with_groups {
     }
 }
 
-#[cfg(feature = "pack")]
 fn pack_case(name: &'static str, groups: usize) -> Case {
     let (ours, plain) = (frames::requests(groups), frames::requests(groups));
     Case {
@@ -224,17 +218,14 @@ fn cases() -> Vec<Case> {
     let eight: Vec<Sender> = (0..8).map(Sender::nth).collect();
     let stream = frames::stream();
     let mut cases = Vec::new();
-    #[cfg(feature = "groups")]
     for (name, n) in [("unpack-1", 1), ("unpack-4", 4), ("unpack-15", 15)] {
         cases.push(with_groups::unpack_case(name, &frames::packed(&frames::requests(n))));
     }
-    #[cfg(feature = "pack")]
     for (name, n) in [("pack-1", 1), ("pack-4", 4), ("pack-15", 15)] {
         cases.push(pack_case(name, n));
     }
     cases.push(frame_case("transfer-rts", &[], &frames::transfers(&eight[..1])));
     cases.push(frame_case("transfers-8", &[], &frames::transfers(&eight)));
-    #[cfg(feature = "groups")]
     {
         cases.push(with_groups::stream_case("stream-0-open", &[], &stream));
         cases.push(with_groups::stream_case("stream-4-open", &eight[..4], &stream));
@@ -258,14 +249,11 @@ fn equal() {
         let seen = equal::compare::<false>(name, frames);
         let seen: Vec<String> = (0..256).filter(|&n| seen[n] > 0).map(|n| format!("{n}: {}", seen[n])).collect();
         eprintln!("{name}: {} frames equal; numbers {}", frames.len(), seen.join(", "));
-        #[cfg(feature = "groups")]
         equal::compare_groups(name, frames);
     }
     for n in [1, 4, 15] {
         let requests = frames::requests(n);
-        #[cfg(feature = "groups")]
         equal::compare_groups("packed", &frames::packed(&requests));
-        #[cfg(feature = "pack")]
         equal::compare_pack("requests", &requests);
         assert!(frames::packed(&requests).len() == 16);
     }

@@ -1,0 +1,80 @@
+-- Demand 3 of document 01 over the boundary: no session can disturb another, for a program in C that lends the bytes.
+use Prim.Native.Nat.{ℕ, _<_}
+use native.Mathlib.Omega.{arith}
+use mathlib.Core.Path.{_≡_, refl, sym, _∙_, subst}
+use mathlib.Core.Bool.{Bool, true, false, cond, not}
+use mathlib.Core.List.{List}
+use lib.Dec.{eqb}
+use lib.ListN.{length}
+use Rattle.frame.specs.declared.Address.{Address}
+use Rattle.frame.specs.declared.refusal.Refusal.the-variants.{OutOfBounds}
+use Rattle.slots.specs.Bounds.{openingOk}
+use Rattle.receiver.specs.declared.Receiver.{Receiver}
+use Rattle.receiver.specs.declared.answer.Opening.the-variants.{Accepted, Refused}
+use Rattle.receiver.specs.Bounds.{opened, openedWith}
+use Rattle.record_bytes.specs.Layout.{recordBytes}
+use Rattle.record_bytes.specs.RoundTrip.{is-record, read-back}
+use Rattle.link.specs.Calls.{openedIn}
+use Rattle.isolation.specs.Rules.{Values, fresh, outputs}
+use Rattle.isolation.specs.World.{told}
+use Rattle.isolation.proofs.Demand3.{opens-in-bounds, demand-3}
+use Rattle.carried.specs.Crossed.{Lending, AllProper, callsOf}
+use Rattle.carried.specs.Shown.{shownOver}
+use Rattle.carried.proofs.Step.{Holds}
+use Rattle.carried.proofs.Run.{Fine, fine-fits, Carried, carried}
+
+-- ---- an opening that is answered 0
+
+-- it was accepted, and the bytes are those of the record opened
+opens : (own limit first : ℕ) (d : List ℕ) → openedIn own limit first d .0 ≡ 0
+    → (opened (record { 0 = own }) limit first .answer ≡ Accepted) × (openedIn own limit first d .1 ≡ recordBytes (openedWith (record { 0 = own }) limit first))
+unfolding openedIn opened
+opens own limit first d e = go (not (eqb (length d) 249)) (openingOk O limit) e
+  where
+    O : Address
+    O = record { 0 = own }
+
+    w : List ℕ
+    w = recordBytes (openedWith O limit first)
+
+    go : (t u : Bool) → cond {A = ℕ × List ℕ} t (23, d) (cond u 0 23, w) .0 ≡ 0
+        → (cond u Accepted (Refused OutOfBounds) ≡ Accepted) × (cond {A = ℕ × List ℕ} t (23, d) (cond u 0 23, w) .1 ≡ w)
+    go true u e = absurd (omega arith)
+    go false true e = (refl, refl)
+    go false false e = absurd (omega arith)
+
+-- ---- the theorem
+
+module _ (own limit first : ℕ) (d : List ℕ) (zero-answered : openedIn own limit first d .0 ≡ 0) (t : first < 4294967296) (m : List ℕ) (whole : length m ≡ 32768) where
+  abbrev O : Receiver
+  O = openedWith (record { 0 = own }) limit first
+
+  opened-fine : Fine O m
+  unfolding opened
+  opened-fine = record {
+    bounds = opens-in-bounds (record { 0 = own }) limit first (opens own limit first d zero-answered .0);
+    eight = refl;
+    narrow = record { last = t; slots = (tt, (tt, (tt, (tt, (tt, (tt, (tt, (tt, tt)))))))) };
+    whole = whole;
+  }
+
+  opened-holds : Holds (openedIn own limit first d .1) O
+  opened-holds =
+      subst (λ (b : List ℕ). Holds b O) (sym (opens own limit first d zero-answered .1))
+      (record { codes = is-record O (fine-fits O m opened-fine); reads = read-back O (fine-fits O m opened-fine) })
+
+  -- After an opening that is answered 0, over any store of 32,768 bytes and any list of calls, each with room for its answer, its frame
+  -- of bytes or its reading of 32 bits: every call gives the number and the bytes of the receiver's own answer at that call, the store
+  -- is the receiver's, the bytes hold the receiver's record, and what is read off them for a key is what the receiver shows for it.
+  pub boundary-carries : (ls : List Lending) → AllProper ls → Carried O (openedIn own limit first d .1) m ls
+  boundary-carries ls p = carried O (openedIn own limit first d .1) m opened-holds opened-fine ls p
+
+  -- DEMAND 3 OVER THE BOUNDARY. What a program in C reads off its bytes for a key is what the rules of that key by itself put out,
+  -- whatever the other keys do.
+  pub demand-3-carried : (ls : List Lending) → AllProper ls → (k : ℕ)
+      → let v : Values = record { own = record { 0 = own }; limit = limit } in
+      shownOver v k (openedIn own limit first d .1) m ls ≡ outputs v k (fresh first) (told v (λ j. fresh first) k (callsOf ls))
+  unfolding opened
+  demand-3-carried ls p k =
+      boundary-carries ls p .shows-it (record { own = record { 0 = own }; limit = limit }) k
+      ∙ demand-3 (record { 0 = own }) limit first (opens own limit first d zero-answered .0) m whole k (callsOf ls)

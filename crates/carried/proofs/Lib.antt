@@ -1,0 +1,6 @@
+pub mod Fits
+pub mod Step
+pub mod ReadBack
+pub mod Answers
+pub mod Run
+pub mod Demand3

@@ -1,0 +1,161 @@
+-- Lists of calls over lent bytes: each gives what the receiver's own call gives, and shows what it shows.
+use Prim.Native.Nat.{ℕ}
+use mathlib.Core.Path.{_≡_, refl, sym, ap, ap₂, _∙_, subst}
+use mathlib.Core.Bool.{true}
+use mathlib.Core.List.{List, [], _∷_, _++_}
+use lib.ListN.{length}
+use Rattle.receiver.specs.declared.Receiver.{Receiver}
+use Rattle.receiver.specs.declared.answer.Answer.{Answer}
+use Rattle.receiver.specs.declared.answer.SlotEnd.{SlotEnd}
+use Rattle.receiver.specs.declared.answer.Kept.{Kept}
+use Rattle.receiver.specs.declared.answer.Elapsed.{Elapsed}
+use Rattle.receiver.specs.Bounds.{inBounds}
+use Rattle.receiver.specs.Calls.{Outcome, frameAll, readingStep}
+use Rattle.record_bytes.specs.Layout.{isRecord, recordAt}
+use Rattle.record_bytes.specs.RoundTrip.{RecordFits}
+use Rattle.in_place.specs.Seen.{Seen, frameIn}
+use Rattle.answer_bytes.specs.Answers.{answerBytes}
+use Rattle.answer_bytes.specs.Ends.{endsBytes}
+use Rattle.link.specs.Calls.{told, framedIn}
+use Rattle.link.specs.Reading.{keptNumber, readIn}
+use Rattle.isolation.specs.Rules as rules
+use Rattle.isolation.specs.Rules.{Values}
+use Rattle.isolation.specs.World.{frame, clock, lent, elsewhere}
+use Rattle.isolation.specs.Observe.{frameSeen, frameElsewhere, readingSeen, readingElsewhere, shows, recordAfter, storeAfter, observed, recordOver, storeOver}
+use Rattle.isolation.proofs.Demand3.{Sound, stays-in-bounds}
+use Rattle.carried.specs.Fitting.{Narrow}
+use Rattle.carried.specs.Crossed.{Given, Lending, Proper, AllProper, frameGives, gives, bytesAfter, storeLeft, givesOver, bytesOver, leftOver, callsOf, answerGiven, endsGiven, answers, answersOver}
+use Rattle.carried.specs.ReadBack.{answerAt, endsAt, keptAt}
+use Rattle.carried.specs.Shown.{outcomeOf, elapsedOf, shown, shownOver}
+use Rattle.carried.proofs.Fits.{record-fits, frame-narrow, reading-narrow}
+use Rattle.carried.proofs.Step.{Holds, Frames, Reads, frame-step, reading-step, framed-is}
+use Rattle.carried.proofs.ReadBack.{AnswerFits, EndsFit, answer-back, ends-back}
+use Rattle.carried.proofs.Answers.{frame-answers, reading-number, reading-eight, reading-ends}
+
+-- ---- what is kept from call to call
+
+pub record Fine (r : Receiver) (m : List ℕ) : Type 0 where
+  pub bounds : inBounds r ≡ true
+  pub eight : length (r .slots) ≡ 8
+  pub narrow : Narrow r
+  pub whole : length m ≡ 32768
+
+pub fine-fits : (r : Receiver) (m : List ℕ) → Fine r m → RecordFits r
+fine-fits r m h = record-fits r (h .bounds) (h .eight) (h .narrow)
+
+narrow-after : (r : Receiver) (m : List ℕ) → Fine r m → (l : Lending) → Proper l → Narrow (recordAfter r m (l .0))
+unfolding recordAfter
+narrow-after r m h (lent (frame id d), a) (p, q) = frame-narrow r (h .narrow) (fine-fits r m h) id d m
+narrow-after r m h (lent (clock t), a) (p, q) = reading-narrow r (h .narrow) (fine-fits r m h) t m q
+narrow-after r m h (elsewhere o e (frame id d), a) (p, q) = frame-narrow r (h .narrow) (fine-fits r m h) id d o
+narrow-after r m h (elsewhere o e (clock t), a) (p, q) = reading-narrow r (h .narrow) (fine-fits r m h) t o q
+
+pub fine-after : (r : Receiver) (m : List ℕ) → Fine r m → (l : Lending) → Proper l → Fine (recordAfter r m (l .0)) (storeAfter r m (l .0))
+fine-after r m h l p =
+    let s : Sound r (recordAfter r m (l .0)) (storeAfter r m (l .0)) = stays-in-bounds r m (h .bounds) (h .eight) (h .whole) (l .0) in
+    record { bounds = s .bounds; eight = s .eight; narrow = narrow-after r m h l p; whole = s .whole }
+
+-- ---- one call
+
+-- a call over lent bytes gives and shows what the receiver's call does, leaves its store, and its bytes hold the receiver's next record
+pub record Same (r : Receiver) (b m : List ℕ) (l : Lending) : Type 0 where
+  pub given : gives b m l ≡ answers r m (l .0)
+  pub store : storeLeft b m l ≡ storeAfter r m (l .0)
+  pub next : Holds (bytesAfter b m l) (recordAfter r m (l .0))
+  pub shows-it : (v : Values) (k : ℕ) → shown v k b m l ≡ shows v k r m (l .0)
+
+told-given : (x : Seen) (o : Outcome) → Frames x o → frameGives (told x) ≡ answerGiven (o .0 .answer)
+told-given x o f = ap answerGiven (f .answer)
+
+reads-given : (x : ℕ × (List ℕ × List ℕ)) (e : Elapsed) → Reads x e → _≡_ {A = Given} (x .0, x .1 .1) (endsGiven e)
+reads-given x e f = ap₂ (λ (n : ℕ) (l : List ℕ). (n, l)) (f .number) (f .answers)
+
+outcome-same : (x : Seen) (o : Outcome) → Frames x o → AnswerFits (o .0 .answer) → outcomeOf (told x) ≡ o
+outcome-same x o f g =
+    ap (λ (r : Receiver). (record { next = r; answer = answerAt (answerBytes (x .0)) }, x .1 .1)) (f .next .reads)
+    ∙ ap₂ (λ (a : Answer) (m : List ℕ). (record { next = o .0 .next; answer = answerAt (answerBytes a) }, m)) (f .answer) (f .store)
+    ∙ ap (λ (a : Answer). (record { next = o .0 .next; answer = a }, o .1)) (answer-back (o .0 .answer) g)
+
+elapsed-same : (x : ℕ × (List ℕ × List ℕ)) (e : Elapsed) → Reads x e → keptAt (keptNumber (e .answer)) ≡ e .answer → length (e .ends) ≡ 8 → EndsFit (e .ends) → elapsedOf x ≡ e
+elapsed-same x e f n l g =
+    ap (λ (r : Receiver). record { next = r; answer = keptAt (x .0); ends = endsAt 8 (x .1 .1) }) (f .next .reads)
+    ∙ ap₂ (λ (i : ℕ) (z : List ℕ). record { next = e .next; answer = keptAt i; ends = endsAt 8 z }) (f .number) (f .answers)
+    ∙ ap₂ (λ (a : Kept) (z : List SlotEnd). record { next = e .next; answer = a; ends = z }) n
+    (ap (λ (i : ℕ). endsAt i (endsBytes (e .ends))) (sym l) ∙ ends-back (e .ends) g)
+
+module _ (b m : List ℕ) (is : isRecord b ≡ true) (fit : RecordFits (recordAt b)) where
+  abbrev R : Receiver
+  R = recordAt b
+
+  same-by : (l : Lending) → Proper l → RecordFits (recordAfter R m (l .0)) → Same R b m l
+  unfolding gives answers storeLeft storeAfter bytesAfter recordAfter shown shows
+  same-by (lent (frame id d), a) (p, q) f =
+      let g : Frames (frameIn b id d m) (frameAll R id d m) = frame-step b is id d m f in
+      let e : framedIn b id d m a ≡ told (frameIn b id d m) = framed-is b id d m a p in
+      record {
+        given = ap frameGives e ∙ told-given (frameIn b id d m) (frameAll R id d m) g;
+        store = ap (λ (x : ℕ × (List ℕ × (List ℕ × List ℕ))). x .1 .1 .0) e ∙ g .store;
+        next = subst (λ (x : ℕ × (List ℕ × (List ℕ × List ℕ))). Holds (x .1 .0) (frameAll R id d m .0 .next)) (sym e) (g .next);
+        shows-it = λ v k. ap (frameSeen v k R id d) (ap outcomeOf e ∙ outcome-same (frameIn b id d m) (frameAll R id d m) g (frame-answers R fit id d m q));
+      }
+  same-by (lent (clock t), a) (p, q) f =
+      let g : Reads (readIn b t m a) (readingStep R t m) = reading-step b is t m a p f in
+      record {
+        given = reads-given (readIn b t m a) (readingStep R t m) g;
+        store = refl;
+        next = g .next;
+        shows-it = λ v k. ap (readingSeen k) (elapsed-same (readIn b t m a) (readingStep R t m) g (reading-number R t m) (reading-eight R fit t m) (reading-ends R fit t m));
+      }
+  same-by (elsewhere o z (frame id d), a) (p, q) f =
+      let g : Frames (frameIn b id d o) (frameAll R id d o) = frame-step b is id d o f in
+      let e : framedIn b id d o a ≡ told (frameIn b id d o) = framed-is b id d o a p in
+      record {
+        given = ap frameGives e ∙ told-given (frameIn b id d o) (frameAll R id d o) g;
+        store = refl;
+        next = subst (λ (x : ℕ × (List ℕ × (List ℕ × List ℕ))). Holds (x .1 .0) (frameAll R id d o .0 .next)) (sym e) (g .next);
+        shows-it = λ v k. ap (frameElsewhere v k R id d) (ap outcomeOf e ∙ outcome-same (frameIn b id d o) (frameAll R id d o) g (frame-answers R fit id d o q));
+      }
+  same-by (elsewhere o z (clock t), a) (p, q) f =
+      let g : Reads (readIn b t o a) (readingStep R t o) = reading-step b is t o a p f in
+      record {
+        given = reads-given (readIn b t o a) (readingStep R t o) g;
+        store = refl;
+        next = g .next;
+        shows-it = λ v k. ap (readingElsewhere k R) (elapsed-same (readIn b t o a) (readingStep R t o) g (reading-number R t o) (reading-eight R fit t o) (reading-ends R fit t o));
+      }
+
+pub same-call : (r : Receiver) (b m : List ℕ) → Holds b r → Fine r m → (l : Lending) → Proper l → Same r b m l
+same-call r b m k h l p =
+    let n : Fine (recordAfter r m (l .0)) (storeAfter r m (l .0)) = fine-after r m h l p in
+    let f : RecordFits (recordAfter r m (l .0)) = fine-fits (recordAfter r m (l .0)) (storeAfter r m (l .0)) n in
+    subst (λ (x : Receiver). Same x b m l) (k .reads)
+    (same-by b m (k .codes) (subst RecordFits (sym (k .reads)) (fine-fits r m h)) l p
+    (subst (λ (x : Receiver). RecordFits (recordAfter x m (l .0))) (sym (k .reads)) f))
+
+-- ---- a list of calls
+
+pub record Carried (r : Receiver) (b m : List ℕ) (ls : List Lending) : Type 0 where
+  pub given : givesOver b m ls ≡ answersOver r m (callsOf ls)
+  pub store : leftOver b m ls ≡ storeOver r m (callsOf ls)
+  pub next : Holds (bytesOver b m ls) (recordOver r m (callsOf ls))
+  pub shows-it : (v : Values) (k : ℕ) → shownOver v k b m ls ≡ observed v k r m (callsOf ls)
+
+pub carried : (r : Receiver) (b m : List ℕ) → Holds b r → Fine r m → (ls : List Lending) → AllProper ls → Carried r b m ls
+unfolding givesOver leftOver bytesOver answersOver storeOver recordOver shownOver observed
+carried r b m k h [] p = record { given = refl; store = refl; next = k; shows-it = λ v j. refl }
+carried r b m k h (l ∷ ls) (p, ps) =
+    let c : Same r b m l = same-call r b m k h l p in
+    let r′ : Receiver = recordAfter r m (l .0) in
+    let m′ : List ℕ = storeAfter r m (l .0) in
+    let b′ : List ℕ = bytesAfter b m l in
+    let n : Carried r′ b′ m′ ls = carried r′ b′ m′ (c .next) (fine-after r m h l p) ls ps in
+    record {
+      given =
+          ap₂ (λ (x : Given) (s : List ℕ). x ∷ givesOver b′ s ls) (c .given) (c .store)
+          ∙ ap (λ (x : List Given). answers r m (l .0) ∷ x) (n .given);
+      store = ap (λ (s : List ℕ). leftOver b′ s ls) (c .store) ∙ n .store;
+      next = subst (λ (s : List ℕ). Holds (bytesOver b′ s ls) (recordOver r′ m′ (callsOf ls))) (sym (c .store)) (n .next);
+      shows-it = λ v j.
+          ap₂ (λ (x : List rules.Seen) (s : List ℕ). x ++ shownOver v j b′ s ls) (c .shows-it v j) (c .store)
+          ∙ ap (λ (x : List rules.Seen). shows v j r m (l .0) ++ x) (n .shows-it v j);
+    }

@@ -1,0 +1,20 @@
+-- What a record in bounds must hold besides, so that each of its numbers has its place in four bytes: the last reading, and of each open
+-- session the last granted segment and the mark.
+use Prim.Native.Nat.{_<_}
+use mathlib.Core.List.{List, [], _∷_}
+use Rattle.slots.specs.declared.Slot.{Slot}
+use Rattle.slots.specs.declared.SlotState.{SlotState}
+use Rattle.slots.specs.declared.SlotState.the-variants.{Free, Open}
+use Rattle.receiver.specs.declared.Receiver.{Receiver}
+
+abbrev pub StateNarrow : SlotState → Type 0
+StateNarrow Free = Unit {0}
+StateNarrow (Open s) = (s .granted .0 < 4294967296) × (s .mark < 4294967296)
+
+abbrev pub SlotsNarrow : List Slot → Type 0
+SlotsNarrow [] = Unit {0}
+SlotsNarrow (s ∷ ss) = StateNarrow (s .state) × SlotsNarrow ss
+
+pub record Narrow (r : Receiver) : Type 0 where
+  pub last : r .last < 4294967296
+  pub slots : SlotsNarrow (r .slots)

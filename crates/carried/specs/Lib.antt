@@ -1,0 +1,4 @@
+pub mod Fitting
+pub mod Crossed
+pub mod ReadBack
+pub mod Shown

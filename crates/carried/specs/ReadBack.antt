@@ -1,0 +1,63 @@
+-- Answers read off the bytes that a call gives: what a program in C can take from them.
+use Prim.Native.Nat.{ℕ, zero, suc}
+use mathlib.Core.Bool.{cond}
+use mathlib.Core.List.{List, [], _∷_}
+use lib.Dec.{eqb}
+use lib.ListN.{getD, take, drop}
+use Rattle.frame.specs.declared.refusal.Refusal.{Refusal}
+use Rattle.frame.specs.declared.refusal.Refusal.the-variants.{FrameLength, IdentifierRange, NotTaken, HeaderCut, DataCut, ServiceType, TrailerFormat, PgnForm, TransferLength, NotReceivers, AnnouncementForm, TooLong, Assurance, KeyOpen, SlotsFull, KeyNotOpen, FormatIndicator, AlreadyTaken, OutOfSequence, SegmentCut, StatusMismatch, Silence, OutOfBounds, PackRequest}
+use Rattle.transport.specs.declared.Key.{Key}
+use Rattle.receiver.specs.declared.answer.Ending.{Ending}
+use Rattle.receiver.specs.declared.answer.Answer.{Answer}
+use Rattle.receiver.specs.declared.answer.Answer.the-variants.{Groups, Opened, Taken, Grant, HandedOver, Aborted, Ended, RefusedRts, Refused}
+use Rattle.receiver.specs.declared.answer.End.{End}
+use Rattle.receiver.specs.declared.answer.End.the-variants as end
+use Rattle.receiver.specs.declared.answer.SlotEnd.{SlotEnd}
+use Rattle.receiver.specs.declared.answer.Kept.{Kept}
+use Rattle.receiver.specs.declared.answer.Kept.the-variants as kept
+use Rattle.record_bytes.specs.Layout.{low32, kindAt}
+
+abbrev pub firstOf : ℕ → ℕ → List Refusal → Refusal
+firstOf n i [] = PackRequest
+firstOf n i (x ∷ l) = cond (eqb n i) x (firstOf n (suc i) l)
+
+-- by its number, from 1 on
+abbrev pub refusalAt : ℕ → Refusal
+refusalAt n =
+    firstOf n 1
+    (FrameLength ∷ IdentifierRange ∷ NotTaken ∷ HeaderCut ∷ DataCut ∷ ServiceType ∷ TrailerFormat ∷ PgnForm ∷ TransferLength ∷ NotReceivers ∷ AnnouncementForm ∷ TooLong ∷ Assurance ∷ KeyOpen ∷ SlotsFull ∷ KeyNotOpen ∷ FormatIndicator ∷ AlreadyTaken ∷ OutOfSequence ∷ SegmentCut ∷ StatusMismatch ∷ Silence ∷ OutOfBounds ∷ [])
+
+abbrev pub keyIn : List ℕ → Key
+keyIn p = record { sa = record { 0 = getD p 2 0 }; da = record { 0 = getD p 3 0 }; session = record { 0 = getD p 4 0 } }
+
+abbrev pub endingIn : List ℕ → Ending
+endingIn p = record { key = keyIn p; kind = kindAt (getD p 5 0); refusal = refusalAt (getD p 0 0); pgn = low32 p 7 }
+
+abbrev pub answerBy : ℕ → List ℕ → Answer
+answerBy code p =
+    cond (eqb code 1) Groups
+    (cond (eqb code 2) (Opened (keyIn p))
+    (cond (eqb code 3) (Taken (record { key = keyIn p; number = record { 0 = low32 p 15 } }))
+    (cond (eqb code 4) (Grant (record { key = keyIn p; next = record { 0 = low32 p 15 }; count = getD p 6 0; pgn = low32 p 7 }))
+    (cond (eqb code 5) (HandedOver (record { key = keyIn p; kind = kindAt (getD p 5 0); total = record { 0 = low32 p 11 }; segments = record { 0 = low32 p 15 }; pgn = low32 p 7; slot = getD p 6 0 }))
+    (cond (eqb code 6) (Aborted (keyIn p))
+    (cond (eqb code 7) (Ended (endingIn p))
+    (cond (eqb code 8) (RefusedRts (record { key = keyIn p; refusal = refusalAt (getD p 0 0); pgn = low32 p 7 }))
+    (Refused (refusalAt (getD p 0 0))))))))))
+
+-- by the code that stands second
+abbrev pub answerAt : List ℕ → Answer
+answerAt p = answerBy (getD p 1 0) p
+
+-- ---- a reading
+
+abbrev pub endAt : List ℕ → End
+endAt p = cond (eqb (getD p 1 0) 7) (end.Ended (endingIn p)) end.Stays
+
+-- 36 bytes for each slot
+abbrev pub endsAt : ℕ → List ℕ → List SlotEnd
+endsAt zero b = []
+endsAt (suc n) b = record { end = endAt (take 36 b) } ∷ endsAt n (drop 36 b)
+
+abbrev pub keptAt : ℕ → Kept
+keptAt n = cond (eqb n 0) kept.Kept (kept.Refused (refusalAt n))
