@@ -18,8 +18,10 @@ pub fn is_group(frame: &[u8], at: usize) -> bool
     if frame[at] / 4 != 16 {
         return false;
     }
-    if !((240 <= frame[at + 1]) | (frame[at + 2] == 0)) {
-        return false;
+    if frame[at + 1] < 240 {
+        if frame[at + 2] != 0 {
+            return false;
+        }
     }
     start + wide(frame[at + 3]) as usize <= frame.len()
 }
