@@ -1,7 +1,7 @@
 /* Two large messages over the boundary for C, one after the other in the same slot, and two groups packed and read back. Everything is
    compared with what was sent; exit status 0 only if all of it came through.
 
-       cc -std=c11 -Iinclude examples/transfer.c target/staticlib/liblink.a -o target/transfer */
+       cc -std=c11 -Iinclude examples/transfer.c target/staticlib/libdwaebinam.a -o target/transfer */
 #include "dwaebinam.h"
 
 #include <stdio.h>

@@ -1,7 +1,7 @@
 /* 01's whole case over the boundary for C, with the lines that 01 gives for it: a reading, a Multi-PG frame, an RTS that is granted,
    a segment out of sequence.
 
-       cc -std=c11 -Iinclude examples/whole_case.c target/staticlib/liblink.a -o target/whole_case */
+       cc -std=c11 -Iinclude examples/whole_case.c target/staticlib/libdwaebinam.a -o target/whole_case */
 #include "dwaebinam.h"
 
 #include <stdio.h>

@@ -48,7 +48,7 @@ use Rattle.receiver.specs.declared.answer.Elapsed.{Elapsed}
 use Rattle.receiver.specs.Calls.{Outcome, answered, refused, withSlot, endingOf, ended, rejected, openedIn, takeSlot, onForm, announceStep, messageOf, statusOpen, abortOpen, onKey, statusStep, abortStep, onControl, controlStep, onJudged, segmentOpen, segmentStep, onData, isReady, groupsStep, onVerdict, frameAll, slotEnd, stays, readingKept, readingStep}
 use Rattle.record_bytes.specs.Kept.{Bytes}
 use Rattle.record_bytes.specs.RoundTrip.{SessionFits, StateFits, SlotsFit, RecordFits}
-use Rattle.link.specs.Reading.{keptNumber}
+use Rattle.dwaebinam.specs.Reading.{keptNumber}
 use Rattle.isolation.proofs.Tests.{and-right, or-right}
 use Rattle.carried.specs.ReadBack.{keptAt}
 use Rattle.carried.proofs.Fits.{fits-at}

@@ -14,7 +14,7 @@ use Rattle.receiver.specs.declared.answer.Opening.the-variants.{Accepted, Refus
 use Rattle.receiver.specs.Bounds.{opened, openedWith}
 use Rattle.record_bytes.specs.Layout.{recordBytes}
 use Rattle.record_bytes.specs.RoundTrip.{is-record, read-back}
-use Rattle.link.specs.Calls.{openedIn}
+use Rattle.dwaebinam.specs.Calls.{openedIn}
 use Rattle.isolation.specs.Rules.{Values, fresh, outputs}
 use Rattle.isolation.specs.World.{told}
 use Rattle.isolation.proofs.Demand3.{opens-in-bounds, demand-3}

@@ -16,8 +16,8 @@ use Rattle.record_bytes.specs.RoundTrip.{RecordFits}
 use Rattle.in_place.specs.Seen.{Seen, frameIn}
 use Rattle.answer_bytes.specs.Answers.{answerBytes}
 use Rattle.answer_bytes.specs.Ends.{endsBytes}
-use Rattle.link.specs.Calls.{told, framedIn}
-use Rattle.link.specs.Reading.{keptNumber, readIn}
+use Rattle.dwaebinam.specs.Calls.{told, framedIn}
+use Rattle.dwaebinam.specs.Reading.{keptNumber, readIn}
 use Rattle.isolation.specs.Rules as rules
 use Rattle.isolation.specs.Rules.{Values}
 use Rattle.isolation.specs.World.{frame, clock, lent, elsewhere}

@@ -22,8 +22,8 @@ use Rattle.record_bytes.specs.Carried.{put-is-record, put-read}
 use Rattle.lent_record.specs.Ready.{readyIn}
 use Rattle.in_place.specs.Seen.{Seen, seenIn, frameIn}
 use Rattle.answer_bytes.specs.Ends.{endsBytes}
-use Rattle.link.specs.Calls.{told, framedIn}
-use Rattle.link.specs.Reading.{keptNumber, readBy, readIn}
+use Rattle.dwaebinam.specs.Calls.{told, framedIn}
+use Rattle.dwaebinam.specs.Reading.{keptNumber, readBy, readIn}
 
 -- the bytes after a call are a record, and read as the receiver's next
 pub record Holds (b : List ℕ) (r : Receiver) : Type 0 where

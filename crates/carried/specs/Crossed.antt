@@ -11,8 +11,8 @@ use Rattle.receiver.specs.Answers.{answerNumber}
 use Rattle.record_bytes.specs.Kept.{Bytes}
 use Rattle.answer_bytes.specs.Answers.{answerBytes}
 use Rattle.answer_bytes.specs.Ends.{endsBytes}
-use Rattle.link.specs.Calls.{framedIn}
-use Rattle.link.specs.Reading.{keptNumber, readIn}
+use Rattle.dwaebinam.specs.Calls.{framedIn}
+use Rattle.dwaebinam.specs.Reading.{keptNumber, readIn}
 use Rattle.isolation.specs.World.{frame, clock, Call, lent, elsewhere}
 use Rattle.isolation.specs.Observe.{recordAfter, storeAfter}
 

@@ -5,8 +5,8 @@ use mathlib.Core.List.{List, [], _∷_, _++_}
 use Rattle.receiver.specs.declared.answer.Elapsed.{Elapsed}
 use Rattle.receiver.specs.Calls.{Outcome}
 use Rattle.record_bytes.specs.Layout.{recordAt}
-use Rattle.link.specs.Calls.{framedIn}
-use Rattle.link.specs.Reading.{readIn}
+use Rattle.dwaebinam.specs.Calls.{framedIn}
+use Rattle.dwaebinam.specs.Reading.{readIn}
 use Rattle.isolation.specs.Rules as rules
 use Rattle.isolation.specs.Rules.{Values}
 use Rattle.isolation.specs.World.{frame, clock, lent, elsewhere}

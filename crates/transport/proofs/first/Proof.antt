@@ -7,15 +7,12 @@ use Rattle.transport.proofs.first.Tie as tie
 use Rattle.transport.proofs.first.Reads as reads
 use Rattle.transport.proofs.first.Lts as lts
 
--- src/lib.rt:30:9
 returns : tie.Need-returns
 returns c = sym (List·getD-eq-default (c .before .args .bytes .now) 0 (omega arith))
 
--- src/lib.rt:32:5
 shared-slice-read-result : tie.Need-shared-slice-read-result
 shared-slice-read-result c = search needs
 
--- src/lib.rt:26:1
 returns-2 : tie.Need-returns-2
 returns-2 c = search needs
 

@@ -6,15 +6,12 @@ use Rattle.answer_bytes.proofs.answer.ended_fields.Lts as lts
 use Rattle.frame.proofs.refusal.number.Reads as number-reads
 use Rattle.record_bytes.proofs.slot.kind_byte.Reads as kind-byte-reads
 
--- src/answer.rt:128:17
 number-requires : tie.Need-number-requires
 number-requires c κs = search needs
 
--- src/answer.rt:131:15
 kind-byte-requires : tie.Need-kind-byte-requires
 kind-byte-requires c κs = search needs
 
--- src/answer.rt:121:1
 returns : tie.Need-returns
 returns c = cc
 

@@ -8,55 +8,42 @@ use Rattle.answer_bytes.proofs.answer.fields_bytes.Reads as reads
 use Rattle.answer_bytes.proofs.answer.fields_bytes.Lts as lts
 use Rattle.frame.proofs.octet.low_byte.Reads as low-byte-reads
 
--- src/answer.rt:183:9
 low-byte-requires : tie.Need-low-byte-requires
 low-byte-requires c κs = search needs
 
--- src/answer.rt:184:9
 low-byte-requires-2 : tie.Need-low-byte-requires-2
 low-byte-requires-2 c κs = search needs
 
--- src/answer.rt:185:9
 low-byte-requires-3 : tie.Need-low-byte-requires-3
 low-byte-requires-3 c κs = search needs
 
--- src/answer.rt:186:9
 low-byte-requires-4 : tie.Need-low-byte-requires-4
 low-byte-requires-4 c κs = search needs
 
--- src/answer.rt:187:9
 low-byte-requires-5 : tie.Need-low-byte-requires-5
 low-byte-requires-5 c κs = search needs
 
--- src/answer.rt:188:9
 low-byte-requires-6 : tie.Need-low-byte-requires-6
 low-byte-requires-6 c κs = search needs
 
--- src/answer.rt:189:9
 low-byte-requires-7 : tie.Need-low-byte-requires-7
 low-byte-requires-7 c κs = search needs
 
--- src/answer.rt:190:9
 low-byte-requires-8 : tie.Need-low-byte-requires-8
 low-byte-requires-8 c κs = search needs
 
--- src/answer.rt:191:9
 low-byte-requires-9 : tie.Need-low-byte-requires-9
 low-byte-requires-9 c κs = search needs
 
--- src/answer.rt:192:9
 low-byte-requires-10 : tie.Need-low-byte-requires-10
 low-byte-requires-10 c κs = search needs
 
--- src/answer.rt:193:9
 low-byte-requires-11 : tie.Need-low-byte-requires-11
 low-byte-requires-11 c κs = search needs
 
--- src/answer.rt:194:9
 low-byte-requires-12 : tie.Need-low-byte-requires-12
 low-byte-requires-12 c κs = search needs
 
--- src/answer.rt:172:1
 returns : tie.Need-returns
 unfolding fieldsBytes
 returns c = same-byte _ (same-byte _ (same-byte _ (same-byte _ (same-byte _ (same-byte _ (same-byte _ (low4-bytes _ (c .before .before .before .before .before .before .before .before .before .before .before .before .before .before .before .before .before .before .before .before .low-byte .ensures) (c .before .before .before .before .before .before .before .before .before .before .before .before .before .before .before .before .before .before .low-byte2 .ensures) (c .before .before .before .before .before .before .before .before .before .before .before .before .before .before .before .before .low-byte3 .ensures) (c .before .before .before .before .before .before .before .before .before .before .before .before .before .before .low-byte4 .ensures) (low4-bytes _ (c .before .before .before .before .before .before .before .before .before .before .before .before .before .low-byte5 .ensures) (c .before .before .before .before .before .before .before .before .before .before .before .low-byte6 .ensures) (c .before .before .before .before .before .before .before .before .before .low-byte7 .ensures) (c .before .before .before .before .before .before .before .low-byte8 .ensures) (low4-bytes _ (c .before .before .before .before .before .before .low-byte9 .ensures) (c .before .before .before .before .low-byte10 .ensures) (c .before .before .low-byte11 .ensures) (c .low-byte12 .ensures) (refl))))))))))

@@ -6,15 +6,12 @@ use Rattle.answer_bytes.proofs.answer.message_fields.Lts as lts
 use Rattle.answer_bytes.proofs.answer.slot_byte.Reads as slot-byte-reads
 use Rattle.record_bytes.proofs.slot.kind_byte.Reads as kind-byte-reads
 
--- src/answer.rt:113:15
 kind-byte-requires : tie.Need-kind-byte-requires
 kind-byte-requires c κs = search needs
 
--- src/answer.rt:114:16
 slot-byte-requires : tie.Need-slot-byte-requires
 slot-byte-requires c κs = search needs
 
--- src/answer.rt:104:1
 returns : tie.Need-returns
 returns c = cc
 

@@ -11,39 +11,30 @@ use Rattle.record_bytes.proofs.layout.copy.Reads as copy-reads
 use Rattle.transport.proofs.response.bytes.Reads as bytes-reads
 use Rattle.transport.proofs.response.identifier.Reads as identifier-reads
 
--- src/answer.rt:215:26
 identifier-requires : tie.Need-identifier-requires
 identifier-requires c κs = search needs
 
--- src/answer.rt:215:16
 sent-head-requires : tie.Need-sent-head-requires
 sent-head-requires c κs = search needs
 
--- src/answer.rt:216:16
 bytes-requires : tie.Need-bytes-requires
 bytes-requires c κs = search needs
 
--- src/answer.rt:217:19
 slice-aggregate-copy : tie.Need-slice-aggregate-copy
 slice-aggregate-copy c = search needs
 
--- src/answer.rt:217:5
 copy-requires : tie.Need-copy-requires
 copy-requires c κs = search needs
 
--- src/answer.rt:218:19
 slice-aggregate-copy-2 : tie.Need-slice-aggregate-copy-2
 slice-aggregate-copy-2 c = search needs
 
--- src/answer.rt:218:5
 copy-requires-2 : tie.Need-copy-requires-2
 copy-requires-2 c κs = search needs
 
--- src/answer.rt:211:1
 same-length : tie.Need-same-length
 same-length c = search needs
 
--- src/answer.rt:211:1
 returns : tie.Need-returns
 returns c =
     let a = c .before .before .before .before .before .before .before .before .before .before .before .before .before .before .args in

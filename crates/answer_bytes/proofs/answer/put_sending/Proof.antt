@@ -13,41 +13,32 @@ use Rattle.answer_bytes.proofs.answer.put_sending.Lts as lts
 use Rattle.answer_bytes.proofs.answer.put_response.Reads as put-response-reads
 use Rattle.record_bytes.proofs.layout.copy.Reads as copy-reads
 
--- src/answer.rt:228:17
 enum-told : tie.Need-enum-told
 enum-told c = search needs
 
--- src/answer.rt:229:27
 slice-aggregate-copy : tie.Need-slice-aggregate-copy
 slice-aggregate-copy c = search needs
 
--- src/answer.rt:229:13
 copy-requires : tie.Need-copy-requires
 copy-requires c κs = search needs
 
--- src/answer.rt:231:23
 enum-known-s : tie.Need-enum-known-s
 enum-known-s c = search needs
 
--- src/answer.rt:232:13
 put-response-requires : tie.Need-put-response-requires
 put-response-requires c κs = search needs
 
--- src/answer.rt:222:1
 same-length : tie.Need-same-length
 same-length c = search needs
 
--- src/answer.rt:222:1
 returns : tie.Need-returns
 returns c =
     let d = now (c .before .before .before .before .before .before .before .before .args .out) in
     c .before .before .copy .ensures ∙ paste-end d 19 (replicate 17 0) 17 (search needs) refl ∙ ap (λ (l : List ℕ). take 19 d ++ l) (sym (ap sentBytes (c .before .before .before .before .before .enum-told .given .1)))
 
--- src/answer.rt:222:1
 same-length-2 : tie.Need-same-length-2
 same-length-2 c = search needs
 
--- src/answer.rt:222:1
 returns-2 : tie.Need-returns-2
 returns-2 c =
     let d = now (c .before .before .before .before .before .before .before .before .args .out) in

@@ -5,11 +5,9 @@ use Rattle.answer_bytes.proofs.answer.rejection_fields.Reads as reads
 use Rattle.answer_bytes.proofs.answer.rejection_fields.Lts as lts
 use Rattle.frame.proofs.refusal.number.Reads as number-reads
 
--- src/answer.rt:145:17
 number-requires : tie.Need-number-requires
 number-requires c κs = search needs
 
--- src/answer.rt:139:1
 returns : tie.Need-returns
 returns c = cc
 

@@ -12,35 +12,27 @@ use Rattle.answer_bytes.proofs.answer.put_sending.Reads as put-sending-
 use Rattle.record_bytes.proofs.layout.copy.Reads as copy-reads
 use Rattle.receiver.proofs.answer.response_of.Reads as response-of-reads
 
--- src/answer.rt:242:29
 fields-of-requires : tie.Need-fields-of-requires
 fields-of-requires c κs = search needs
 
--- src/answer.rt:242:16
 fields-bytes-requires : tie.Need-fields-bytes-requires
 fields-bytes-requires c κs = search needs
 
--- src/answer.rt:243:18
 slice-aggregate-copy : tie.Need-slice-aggregate-copy
 slice-aggregate-copy c = search needs
 
--- src/answer.rt:243:5
 copy-requires : tie.Need-copy-requires
 copy-requires c κs = search needs
 
--- src/answer.rt:244:17
 response-of-requires : tie.Need-response-of-requires
 response-of-requires c κs = search needs
 
--- src/answer.rt:244:5
 put-sending-requires : tie.Need-put-sending-requires
 put-sending-requires c κs = search needs
 
--- src/answer.rt:238:1
 same-length : tie.Need-same-length
 same-length c = search needs
 
--- src/answer.rt:238:1
 returns : tie.Need-returns
 returns c =
     let a = c .before .before .before .before .before .before .before .before .before .before .before .before .before .args in

@@ -7,23 +7,18 @@ use Rattle.answer_bytes.proofs.ends.end_bytes.Reads as reads
 use Rattle.answer_bytes.proofs.ends.end_bytes.Lts as lts
 use Rattle.answer_bytes.proofs.ends.ended_bytes.Reads as ended-bytes-reads
 
--- src/ends.rt:43:23
 enum-told : tie.Need-enum-told
 enum-told c = search needs
 
--- src/ends.rt:44:20
 enum-known-end : tie.Need-enum-known-end
 enum-known-end c = search needs
 
--- src/ends.rt:44:26
 ended-bytes-requires : tie.Need-ended-bytes-requires
 ended-bytes-requires c κs = search needs
 
--- src/ends.rt:38:1
 returns : tie.Need-returns
 returns c = search needs
 
--- src/ends.rt:38:1
 returns-2 : tie.Need-returns-2
 returns-2 c = c .ended-bytes .ensures ∙ sym (ap endBytes (c .before .before .end .given .1))
 

@@ -10,51 +10,39 @@ use Rattle.answer_bytes.proofs.answer.put_response.Reads as put-respons
 use Rattle.receiver.proofs.answer.response_of_end.Reads as response-of-end-reads
 use Rattle.record_bytes.proofs.layout.copy.Reads as copy-reads
 
--- src/ends.rt:26:29
 ended-fields-requires : tie.Need-ended-fields-requires
 ended-fields-requires c κs = search needs
 
--- src/ends.rt:26:16
 fields-bytes-requires : tie.Need-fields-bytes-requires
 fields-bytes-requires c κs = search needs
 
--- src/ends.rt:27:10
 slice-aggregate-copy : tie.Need-slice-aggregate-copy
 slice-aggregate-copy c = search needs
 
--- src/ends.rt:27:25
 slice-aggregate-copy-2 : tie.Need-slice-aggregate-copy-2
 slice-aggregate-copy-2 c = search needs
 
--- src/ends.rt:27:5
 copy-requires : tie.Need-copy-requires
 copy-requires c κs = search needs
 
--- src/ends.rt:28:11
 response-of-end-requires : tie.Need-response-of-end-requires
 response-of-end-requires c κs = search needs
 
--- src/ends.rt:29:29
 enum-told : tie.Need-enum-told
 enum-told c = search needs
 
--- src/ends.rt:30:23
 enum-known-f : tie.Need-enum-known-f
 enum-known-f c = search needs
 
--- src/ends.rt:31:29
 slice-aggregate-put-response : tie.Need-slice-aggregate-put-response
 slice-aggregate-put-response c = search needs
 
--- src/ends.rt:31:13
 put-response-requires : tie.Need-put-response-requires
 put-response-requires c κs = search needs
 
--- src/ends.rt:22:1
 returns : tie.Need-returns
 returns c = ended-quiet (c .before .before .before .before .before .before .before .before .before .args .e) (c .before .before .before .before .before .before .before .before .ended-fields .result) (c .before .before .response-of-end .result) (c .before .before .before .before .before .before .before .fields-bytes .result) (c .before .before .before .before .copy .last .0) (c .before .before .before .before .before .before .before .before .ended-fields .ensures) (c .before .before .before .before .before .before .before .fields-bytes .ensures) (c .before .before .before .before .copy .ensures) (c .before .before .response-of-end .ensures) (c .enum-told .given .1)
 
--- src/ends.rt:22:1
 returns-2 : tie.Need-returns-2
 returns-2 c = ended-sends (c .before .before .before .before .before .before .before .before .before .before .before .before .before .args .e) (c .before .before .before .before .before .before .before .before .before .before .before .before .ended-fields .result) (c .before .before .before .before .before .before .response-of-end .result) (c .before .before .before .before .before .before .before .before .before .before .before .fields-bytes .result) (c .before .before .before .before .before .before .before .before .copy .last .0) (c .before .before .before .before .before .before .before .before .before .before .before .before .ended-fields .ensures) (c .before .before .before .before .before .before .before .before .before .before .before .fields-bytes .ensures) (c .before .before .before .before .before .before .before .before .copy .ensures) (c .before .before .before .before .before .before .response-of-end .ensures) (c .before .before .before .before .f .given .0 .0) (c .before .put-response .last .1 .0) (c .before .before .before .before .f .given .1) (c .before .put-response .ensures)
 

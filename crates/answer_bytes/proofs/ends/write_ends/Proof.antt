@@ -15,43 +15,33 @@ Inv-loop out₀ ends i₀ out i = (length ends ≡ 8) × (length out ≡ 288) ×
 abbrev μ-loop : tie.MeasureT-loop
 μ-loop out₀ ends i₀ out i = 8 - i
 
--- src/ends.rt:36:5
 loop-holds : tie.Need-loop-holds Inv-loop μ-loop
 loop-holds c = (search needs, search needs, search needs, refl)
 
--- src/ends.rt:37:31
 mul-end-bytes : tie.Need-mul-end-bytes Inv-loop μ-loop
 mul-end-bytes c = search needs
 
--- src/ends.rt:37:31
 array-copy-out-end-bytes : tie.Need-array-copy-out-end-bytes Inv-loop μ-loop
 array-copy-out-end-bytes c = search needs
 
--- src/ends.rt:37:21
 end-bytes-requires : tie.Need-end-bytes-requires Inv-loop μ-loop
 end-bytes-requires c κs = search needs
 
--- src/ends.rt:38:19
 mul-copy : tie.Need-mul-copy Inv-loop μ-loop
 mul-copy c = search needs
 
--- src/ends.rt:38:37
 slice-aggregate-copy : tie.Need-slice-aggregate-copy Inv-loop μ-loop
 slice-aggregate-copy c = search needs
 
--- src/ends.rt:38:9
 copy-requires : tie.Need-copy-requires Inv-loop μ-loop
 copy-requires c κs = search needs
 
--- src/ends.rt:39:13
 add-i : tie.Need-add-i Inv-loop μ-loop
 add-i c = search needs
 
--- src/ends.rt:36:5
 loop-less : tie.Need-loop-less Inv-loop μ-loop
 loop-less c = search needs
 
--- src/ends.rt:36:5
 loop-again : tie.Need-loop-again Inv-loop μ-loop
 loop-again c =
     let a = c .before .before .before .before .before .before .before .before .before .before .args in
@@ -65,11 +55,9 @@ loop-again c =
       ends-turn (a .t1) (at .out) o _ (at .i) _ (at .inv .0) (at .inv .1) (search needs) e q (at .inv .3),
     )
 
--- src/ends.rt:31:1
 same-length : tie.Need-same-length Inv-loop μ-loop
 same-length c = search needs
 
--- src/ends.rt:31:1
 returns : tie.Need-returns Inv-loop μ-loop
 returns c =
     let at = c .before .loop in

@@ -10,86 +10,66 @@ use Rattle.frame.proofs.identifier.build.Reads as reads
 use Rattle.frame.proofs.identifier.build.Lts as lts
 use Rattle.frame.proofs.octet.wide.Reads as wide-reads
 
--- src/identifier.rt:41:9
 returns : tie.Need-returns
 returns c = then _ _ _ _ (le-leb _ _ (c .if1 .taken)) refl
 
--- src/identifier.rt:44:9
 returns-2 : tie.Need-returns-2
 returns-2 c = else _ _ _ _ (lt-leb _ _ (c .before .before .if1 .left)) (then _ _ _ _ (le-leb _ _ (c .if2 .taken)) refl)
 
--- src/identifier.rt:47:9
 returns-3 : tie.Need-returns-3
 returns-3 c =
     else _ _ _ _ (lt-leb _ _ (c .before .before .before .before .if1 .left))
     (else _ _ _ _ (lt-leb _ _ (c .before .before .if2 .left))
     (then _ _ _ _ (le-leb _ _ (c .if3 .taken)) refl))
 
--- src/identifier.rt:50:20
 wide-requires : tie.Need-wide-requires
 wide-requires c κs = search needs
 
--- src/identifier.rt:50:9
 mul-t4 : tie.Need-mul-t4
 mul-t4 c = search needs
 
--- src/identifier.rt:51:26
 wide-requires-2 : tie.Need-wide-requires-2
 wide-requires-2 c κs = search needs
 
--- src/identifier.rt:51:15
 mul-t6 : tie.Need-mul-t6
 mul-t6 c = search needs
 
--- src/identifier.rt:50:9
 add-t7 : tie.Need-add-t7
 add-t7 c = search needs
 
--- src/identifier.rt:52:26
 wide-requires-3 : tie.Need-wide-requires-3
 wide-requires-3 c κs = search needs
 
--- src/identifier.rt:52:15
 mul-t9 : tie.Need-mul-t9
 mul-t9 c = search needs
 
--- src/identifier.rt:50:9
 add-t10 : tie.Need-add-t10
 add-t10 c = search needs
 
--- src/identifier.rt:53:23
 wide-requires-4 : tie.Need-wide-requires-4
 wide-requires-4 c κs = search needs
 
--- src/identifier.rt:53:15
 mul-t12 : tie.Need-mul-t12
 mul-t12 c = search needs
 
--- src/identifier.rt:50:9
 add-t13 : tie.Need-add-t13
 add-t13 c = search needs
 
--- src/identifier.rt:54:21
 wide-requires-5 : tie.Need-wide-requires-5
 wide-requires-5 c κs = search needs
 
--- src/identifier.rt:54:15
 mul-t15 : tie.Need-mul-t15
 mul-t15 c = search needs
 
--- src/identifier.rt:50:9
 add-t16 : tie.Need-add-t16
 add-t16 c = search needs
 
--- src/identifier.rt:55:15
 wide-requires-6 : tie.Need-wide-requires-6
 wide-requires-6 c κs = search needs
 
--- src/identifier.rt:50:9
 add-t18 : tie.Need-add-t18
 add-t18 c = search needs
 
--- src/identifier.rt:37:1
 returns-4 : tie.Need-returns-4
 returns-4 c =
     else _ _ _ _ (lt-leb _ _ (c .before .before .before .before .before .before .before .before .before .before .if1 .left))

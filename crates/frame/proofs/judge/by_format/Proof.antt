@@ -9,22 +9,18 @@ use Rattle.frame.proofs.judge.by_format.Tie as tie
 use Rattle.frame.proofs.judge.by_format.Reads as reads
 use Rattle.frame.proofs.judge.by_format.Lts as lts
 
--- src/judge.rt:39:1
 returns : tie.Need-returns
 unfolding byFormat
 returns c = ap (λ (p : ℕ). byFormat p (c .before .args .route)) (sym (c .match .keys1))
 
--- src/judge.rt:39:1
 returns-2 : tie.Need-returns-2
 unfolding byFormat
 returns-2 c = ap (λ (p : ℕ). byFormat p (c .before .args .route)) (sym (c .match .keys2))
 
--- src/judge.rt:39:1
 returns-3 : tie.Need-returns-3
 unfolding byFormat
 returns-3 c = ap (λ (p : ℕ). byFormat p (c .before .args .route)) (sym (c .match .keys3))
 
--- src/judge.rt:39:1
 returns-4 : tie.Need-returns-4
 unfolding byFormat
 returns-4 c =

@@ -14,31 +14,25 @@ use Rattle.frame.proofs.judge.by_format.Reads as by-format-reads
 use Rattle.frame.proofs.judge.route_taken.Reads as route-taken-reads
 use Rattle.frame.proofs.length.is_length.Reads as is-length-reads
 
--- src/judge.rt:55:9
 returns : tie.Need-returns
 unfolding judged
 returns c = then _ _ _ _ (le-leb _ _ (c .if1 .taken)) refl
 
--- src/judge.rt:57:9
 is-length-requires : tie.Need-is-length-requires
 is-length-requires c κs = search needs
 
--- src/judge.rt:58:9
 returns-2 : tie.Need-returns-2
 unfolding judged
 returns-2 c =
     else _ _ _ _ (lt-leb _ _ (c .before .before .if1 .left))
     (then _ _ _ _ (ap not (sym (c .before .is-length .ensures)) ∙ c .if2 .taken) refl)
 
--- src/judge.rt:60:9
 read-requires : tie.Need-read-requires
 read-requires c κs = search needs
 
--- src/judge.rt:61:9
 route-taken-requires : tie.Need-route-taken-requires
 route-taken-requires c κs = search needs
 
--- src/judge.rt:62:9
 returns-3 : tie.Need-returns-3
 unfolding judged
 returns-3 c =
@@ -46,11 +40,9 @@ returns-3 c =
     (else _ _ _ _ (ap not (sym (c .before .before .before .before .is-length .ensures)) ∙ c .before .before .before .if2 .left)
     (then _ _ _ _ (ap not (sym (c .before .route-taken .ensures ∙ ap (routeTaken (c .before .before .before .before .before .before .args .own)) (c .before .before .read .ensures))) ∙ c .if3 .taken) refl))
 
--- src/judge.rt:69:5
 by-format-requires : tie.Need-by-format-requires
 by-format-requires c κs = search needs
 
--- src/judge.rt:51:1
 returns-4 : tie.Need-returns-4
 unfolding judged
 returns-4 c =

@@ -31,43 +31,33 @@ Inv-loop need table i₀ i = (i ≤ 16) × (firstHolding need (drop i lengths) �
 abbrev μ-loop : tie.MeasureT-loop
 μ-loop need table i₀ i = 16 - i
 
--- src/length.rt:25:5
 loop-holds : tie.Need-loop-holds Inv-loop μ-loop
 loop-holds c = search needs
 
--- src/length.rt:26:20
 mul-if1 : tie.Need-mul-if1 Inv-loop μ-loop
 mul-if1 c = search needs
 
--- src/length.rt:26:20
 array-read-if1 : tie.Need-array-read-if1 Inv-loop μ-loop
 array-read-if1 c = search needs
 
--- src/length.rt:27:34
 mul-t10 : tie.Need-mul-t10 Inv-loop μ-loop
 mul-t10 c = search needs
 
--- src/length.rt:27:34
 array-read-t13 : tie.Need-array-read-t13 Inv-loop μ-loop
 array-read-t13 c = search needs
 
--- src/length.rt:27:13
 returns : tie.Need-returns Inv-loop μ-loop
 returns c = found (c .before .before .before .args .need) (c .before .before .loop .i) (omega arith) (c .before .before .loop .inv .1) (c .if1 .taken)
 
--- src/length.rt:29:13
 add-i : tie.Need-add-i Inv-loop μ-loop
 add-i c = search needs
 
--- src/length.rt:25:5
 loop-less : tie.Need-loop-less Inv-loop μ-loop
 loop-less c = search needs
 
--- src/length.rt:25:5
 loop-again : tie.Need-loop-again Inv-loop μ-loop
 loop-again c = (search needs, passed (c .before .before .before .args .need) (c .before .before .loop .i) (omega arith) (c .before .before .loop .inv .1) (c .if1 .left))
 
--- src/length.rt:20:1
 returns-2 : tie.Need-returns-2 Inv-loop μ-loop
 returns-2 c =
     sym (end (firstHolding (c .before .before .args .need)) lengths (c .before .loop .i) (omega arith)) ∙ c .before .loop .inv .1

@@ -19,70 +19,54 @@ use Rattle.in_place_control.proofs.end.status.Reads as status-reads
 use Rattle.transport.proofs.control.key_of.Reads as key-of-reads
 use Rattle.transport.proofs.control.read_control.Reads as read-control-reads
 
--- src/call.rt:46:9
 key-of-requires : tie.Need-key-of-requires
 key-of-requires c κs = search needs
 
--- src/call.rt:47:11
 read-control-requires : tie.Need-read-control-requires
 read-control-requires c κs = search needs
 
--- src/call.rt:48:27
 enum-known-a : tie.Need-enum-known-a
 enum-known-a c = search needs
 
--- src/call.rt:48:33
 announce-requires : tie.Need-announce-requires
 announce-requires c κs = search needs
 
--- src/call.rt:49:31
 enum-known-st : tie.Need-enum-known-st
 enum-known-st c = search needs
 
--- src/call.rt:49:38
 status-requires : tie.Need-status-requires
 status-requires c κs = search needs
 
--- src/call.rt:50:24
 enum-known-pgn : tie.Need-enum-known-pgn
 enum-known-pgn c = search needs
 
--- src/call.rt:50:32
 abort-requires : tie.Need-abort-requires
 abort-requires c κs = search needs
 
--- src/call.rt:51:26
 enum-known-n : tie.Need-enum-known-n
 enum-known-n c = search needs
 
--- src/call.rt:42:1
 same-length : tie.Need-same-length
 same-length c = search needs
 
--- src/call.rt:42:1
 returns : tie.Need-returns
 unfolding controlStep
 returns c = let a = c .before .before .before .before .before .before .before .before .before .before .before .args in by-case (λ (z : Control). steppedIn (now (a .buffer)) (onControl z (recordAt (now (a .buffer))) (keyOf (a .route) (now (a .bytes))))) _ _ _ _ (c .before .before .before .before .before .before .before .read-control .ensures) (c .before .before .before .before .before .a .given .1) (c .before .before .announce .ensures ∙ ap (λ (k : Key). steppedIn (now (a .buffer)) (announceStep (recordAt (now (a .buffer))) k (c .before .before .before .before .before .a .given .0 .0))) (c .before .before .before .before .before .before .before .before .key-of .ensures))
 
--- src/call.rt:42:1
 same-length-2 : tie.Need-same-length-2
 same-length-2 c = search needs
 
--- src/call.rt:42:1
 returns-2 : tie.Need-returns-2
 unfolding controlStep
 returns-2 c = let a = c .before .before .before .before .before .before .before .before .before .before .before .args in by-case (λ (z : Control). steppedIn (now (a .buffer)) (onControl z (recordAt (now (a .buffer))) (keyOf (a .route) (now (a .bytes))))) _ _ _ _ (c .before .before .before .before .before .before .before .read-control .ensures) (c .before .before .before .before .before .st .given .1) (c .before .before .status .ensures ∙ ap (λ (k : Key). steppedIn (now (a .buffer)) (statusStep (recordAt (now (a .buffer))) k (c .before .before .before .before .before .st .given .0 .0))) (c .before .before .before .before .before .before .before .before .key-of .ensures))
 
--- src/call.rt:42:1
 same-length-3 : tie.Need-same-length-3
 same-length-3 c = search needs
 
--- src/call.rt:42:1
 returns-3 : tie.Need-returns-3
 unfolding controlStep
 returns-3 c = let a = c .before .before .before .before .before .before .before .before .before .before .before .args in by-case (λ (z : Control). steppedIn (now (a .buffer)) (onControl z (recordAt (now (a .buffer))) (keyOf (a .route) (now (a .bytes))))) _ _ _ _ (c .before .before .before .before .before .before .before .read-control .ensures) (c .before .before .before .before .before .pgn .given .1) (c .before .before .abort .ensures ∙ ap (λ (k : Key). steppedIn (now (a .buffer)) (abortStep (recordAt (now (a .buffer))) k (c .before .before .before .before .before .pgn .given .0 .0))) (c .before .before .before .before .before .before .before .before .key-of .ensures))
 
--- src/call.rt:42:1
 returns-4 : tie.Need-returns-4
 unfolding controlStep
 returns-4 c = let a = c .before .before .before .before .before .before .before .args in by-case (λ (z : Control). steppedIn (now (a .buffer)) (onControl z (recordAt (now (a .buffer))) (keyOf (a .route) (now (a .bytes))))) _ _ _ _ (c .before .before .before .read-control .ensures) (c .before .n .given .1) (unchanged (now (a .buffer)) (c .before .before .before .before .before .before .before .pre .1) _)

@@ -9,23 +9,18 @@ use Rattle.in_place.proofs.call.groups.Reads as reads
 use Rattle.in_place.proofs.call.groups.Lts as lts
 use Rattle.multi_pg.proofs.read.judge.Reads as judge-reads
 
--- src/call.rt:32:11
 judge-requires : tie.Need-judge-requires
 judge-requires c κs = search needs
 
--- src/call.rt:33:28
 enum-told : tie.Need-enum-told
 enum-told c = search needs
 
--- src/call.rt:34:28
 enum-known-n : tie.Need-enum-known-n
 enum-known-n c = search needs
 
--- src/call.rt:29:1
 returns : tie.Need-returns
 returns c = by-case groupsAnswer _ _ _ _ (c .before .before .judge .ensures) (c .enum-told .given .1) refl
 
--- src/call.rt:29:1
 returns-2 : tie.Need-returns-2
 returns-2 c = by-case groupsAnswer _ _ _ _ (c .before .before .before .judge .ensures) (c .before .n .given .1) refl
 

@@ -16,87 +16,66 @@ use Rattle.in_place.proofs.call.groups.Reads as groups-reads
 use Rattle.lent_record.proofs.ready.is_ready.Reads as is-ready-reads
 use Rattle.lent_record.proofs.ready.own_of.Reads as own-of-reads
 
--- src/call.rt:71:9
 is-ready-requires : tie.Need-is-ready-requires
 is-ready-requires c κs = search needs
 
--- src/call.rt:72:9
 same-length : tie.Need-same-length
 same-length c = search needs
 
--- src/call.rt:72:9
 returns : tie.Need-returns
 returns c = not-ready (now (c .before .before .before .before .before .before .args .buffer)) (c .before .before .before .before .before .before .args .id) (now (c .before .before .before .before .before .before .args .bytes)) (now (c .before .before .before .before .before .before .args .store)) (c .before .is-ready .result) (c .before .is-ready .ensures) (c .if1 .taken)
 
--- src/call.rt:74:9
 own-of-requires : tie.Need-own-of-requires
 own-of-requires c κs = let l = is-ready (now (c .before .before .before .before .before .before .before .args .buffer)) (c .before .before .before .before .before .before .before .args .id) (now (c .before .before .before .before .before .before .before .args .bytes)) (now (c .before .before .before .before .before .before .before .args .store)) (c .before .before .is-ready .result) (c .before .before .is-ready .ensures) (c .before .if1 .left) .long in omega (arith, l)
 
--- src/call.rt:75:11
 judge-requires : tie.Need-judge-requires
 judge-requires c κs = search needs
 
--- src/call.rt:76:32
 enum-told : tie.Need-enum-told
 enum-told c = search needs
 
--- src/call.rt:76:32
 groups-requires : tie.Need-groups-requires
 groups-requires c κs = search needs
 
--- src/call.rt:77:26
 enum-known-route : tie.Need-enum-known-route
 enum-known-route c = search needs
 
--- src/call.rt:77:36
 control-requires : tie.Need-control-requires
 control-requires c κs = (is-ready (now (c .before .before .before .before .before .before .before .before .before .before .before .before .before .args .buffer)) (c .before .before .before .before .before .before .before .before .before .before .before .before .before .args .id) (now (c .before .before .before .before .before .before .before .before .before .before .before .before .before .args .bytes)) (now (c .before .before .before .before .before .before .before .before .before .before .before .before .before .args .store)) (c .before .before .before .before .before .before .before .before .is-ready .result) (c .before .before .before .before .before .before .before .before .is-ready .ensures) (c .before .before .before .before .before .before .before .if1 .left) .long, holds (now (c .before .before .before .before .before .before .before .before .before .before .before .before .before .args .buffer)) (c .before .before .before .before .before .before .before .before .before .before .before .before .before .args .id) (now (c .before .before .before .before .before .before .before .before .before .before .before .before .before .args .bytes)) (now (c .before .before .before .before .before .before .before .before .before .before .before .before .before .args .store)) (c .before .before .before .before .before .before .before .before .is-ready .result) (c .before .before .before .before .before .before .before .before .is-ready .ensures) (c .before .before .before .before .before .before .before .if1 .left) (c .before .before .before .before .before .own-of .ensures .1))
 
--- src/call.rt:78:23
 enum-known-route-2 : tie.Need-enum-known-route-2
 enum-known-route-2 c = search needs
 
--- src/call.rt:78:33
 data-frame-requires : tie.Need-data-frame-requires
 data-frame-requires c κs = let g = is-ready (now (c .before .before .before .before .before .before .before .before .before .before .before .before .before .before .args .buffer)) (c .before .before .before .before .before .before .before .before .before .before .before .before .before .before .args .id) (now (c .before .before .before .before .before .before .before .before .before .before .before .before .before .before .args .bytes)) (now (c .before .before .before .before .before .before .before .before .before .before .before .before .before .before .args .store)) (c .before .before .before .before .before .before .before .before .before .is-ready .result) (c .before .before .before .before .before .before .before .before .before .is-ready .ensures) (c .before .before .before .before .before .before .before .before .if1 .left) in (g .bounds, g .store, g .long, holds (now (c .before .before .before .before .before .before .before .before .before .before .before .before .before .before .args .buffer)) (c .before .before .before .before .before .before .before .before .before .before .before .before .before .before .args .id) (now (c .before .before .before .before .before .before .before .before .before .before .before .before .before .before .args .bytes)) (now (c .before .before .before .before .before .before .before .before .before .before .before .before .before .before .args .store)) (c .before .before .before .before .before .before .before .before .before .is-ready .result) (c .before .before .before .before .before .before .before .before .before .is-ready .ensures) (c .before .before .before .before .before .before .before .before .if1 .left) (c .before .before .before .before .before .before .own-of .ensures .1))
 
--- src/call.rt:79:26
 enum-known-n : tie.Need-enum-known-n
 enum-known-n c = search needs
 
--- src/call.rt:68:1
 same-length-2 : tie.Need-same-length-2
 same-length-2 c = search needs
 
--- src/call.rt:68:1
 returns-2 : tie.Need-returns-2
 returns-2 c = by-verdict (now (c .before .before .before .before .before .before .before .before .before .before .before .before .args .buffer)) (c .before .before .before .before .before .before .before .before .before .before .before .before .args .id) (now (c .before .before .before .before .before .before .before .before .before .before .before .before .args .bytes)) (now (c .before .before .before .before .before .before .before .before .before .before .before .before .args .store)) (c .before .before .before .before .before .before .before .is-ready .result) (c .before .before .before .before .before .before .before .is-ready .ensures) (c .before .before .before .before .before .before .if1 .left) (c .before .before .before .before .own-of .result) _ _ _ (c .before .before .before .before .own-of .ensures .0) (c .before .before .before .judge .ensures) (c .before .enum-told .given .1) (by-groups (now (c .before .before .before .before .before .before .before .before .before .before .before .before .args .buffer)) (now (c .before .before .before .before .before .before .before .before .before .before .before .before .args .store)) (holds (now (c .before .before .before .before .before .before .before .before .before .before .before .before .args .buffer)) (c .before .before .before .before .before .before .before .before .before .before .before .before .args .id) (now (c .before .before .before .before .before .before .before .before .before .before .before .before .args .bytes)) (now (c .before .before .before .before .before .before .before .before .before .before .before .before .args .store)) (c .before .before .before .before .before .before .before .is-ready .result) (c .before .before .before .before .before .before .before .is-ready .ensures) (c .before .before .before .before .before .before .if1 .left) (c .before .before .before .before .own-of .ensures .1)) _ (reading (now (c .before .before .before .before .before .before .before .before .before .before .before .before .args .bytes))) (c .groups .ensures))
 
--- src/call.rt:68:1
 same-length-3 : tie.Need-same-length-3
 same-length-3 c = search needs
 
--- src/call.rt:68:1
 returns-3 : tie.Need-returns-3
 returns-3 c = by-verdict (now (c .before .before .before .before .before .before .before .before .before .before .before .before .before .before .before .before .args .buffer)) (c .before .before .before .before .before .before .before .before .before .before .before .before .before .before .before .before .args .id) (now (c .before .before .before .before .before .before .before .before .before .before .before .before .before .before .before .before .args .bytes)) (now (c .before .before .before .before .before .before .before .before .before .before .before .before .before .before .before .before .args .store)) (c .before .before .before .before .before .before .before .before .before .before .before .is-ready .result) (c .before .before .before .before .before .before .before .before .before .before .before .is-ready .ensures) (c .before .before .before .before .before .before .before .before .before .before .if1 .left) (c .before .before .before .before .before .before .before .before .own-of .result) _ _ _ (c .before .before .before .before .before .before .before .before .own-of .ensures .0) (c .before .before .before .before .before .before .before .judge .ensures) (c .before .before .before .before .before .route .given .1) (seen-put _ _ _ _ _ (c .before .before .control .ensures) refl)
 
--- src/call.rt:68:1
 same-length-4 : tie.Need-same-length-4
 same-length-4 c = search needs
 
--- src/call.rt:68:1
 same-length-5 : tie.Need-same-length-5
 same-length-5 c = search needs
 
--- src/call.rt:68:1
 returns-4 : tie.Need-returns-4
 returns-4 c = by-verdict (now (c .before .before .before .before .before .before .before .before .before .before .before .before .before .before .before .before .before .before .before .args .buffer)) (c .before .before .before .before .before .before .before .before .before .before .before .before .before .before .before .before .before .before .before .args .id) (now (c .before .before .before .before .before .before .before .before .before .before .before .before .before .before .before .before .before .before .before .args .bytes)) (now (c .before .before .before .before .before .before .before .before .before .before .before .before .before .before .before .before .before .before .before .args .store)) (c .before .before .before .before .before .before .before .before .before .before .before .before .before .before .is-ready .result) (c .before .before .before .before .before .before .before .before .before .before .before .before .before .before .is-ready .ensures) (c .before .before .before .before .before .before .before .before .before .before .before .before .before .if1 .left) (c .before .before .before .before .before .before .before .before .before .before .before .own-of .result) _ _ _ (c .before .before .before .before .before .before .before .before .before .before .before .own-of .ensures .0) (c .before .before .before .before .before .before .before .before .before .before .judge .ensures) (c .before .before .before .before .before .before .before .before .route2 .given .1) (c .before .before .before .before .data-frame .ensures)
 
--- src/call.rt:68:1
 same-length-6 : tie.Need-same-length-6
 same-length-6 c = search needs
 
--- src/call.rt:68:1
 returns-5 : tie.Need-returns-5
 returns-5 c = by-verdict (now (c .before .before .before .before .before .before .before .before .before .before .before .before .args .buffer)) (c .before .before .before .before .before .before .before .before .before .before .before .before .args .id) (now (c .before .before .before .before .before .before .before .before .before .before .before .before .args .bytes)) (now (c .before .before .before .before .before .before .before .before .before .before .before .before .args .store)) (c .before .before .before .before .before .before .before .is-ready .result) (c .before .before .before .before .before .before .before .is-ready .ensures) (c .before .before .before .before .before .before .if1 .left) (c .before .before .before .before .own-of .result) _ _ _ (c .before .before .before .before .own-of .ensures .0) (c .before .before .before .judge .ensures) (c .before .n .given .1) (wrote-none (now (c .before .before .before .before .before .before .before .before .before .before .before .before .args .buffer)) (holds (now (c .before .before .before .before .before .before .before .before .before .before .before .before .args .buffer)) (c .before .before .before .before .before .before .before .before .before .before .before .before .args .id) (now (c .before .before .before .before .before .before .before .before .before .before .before .before .args .bytes)) (now (c .before .before .before .before .before .before .before .before .before .before .before .before .args .store)) (c .before .before .before .before .before .before .before .is-ready .result) (c .before .before .before .before .before .before .before .is-ready .ensures) (c .before .before .before .before .before .before .if1 .left) (c .before .before .before .before .own-of .ensures .1)) _ _ (now (c .before .before .before .before .before .before .before .before .before .before .before .before .args .store)) refl)
 

@@ -22,77 +22,59 @@ use Rattle.session.proofs.segment.due.Reads as due-reads
 use Rattle.session.proofs.segment.judge_segment.Reads as judge-segment-reads
 use Rattle.slots.proofs.store.store_segment.Reads as store-segment-reads
 
--- src/segment.rt:94:11
 judge-segment-requires : tie.Need-judge-segment-requires
 judge-segment-requires c κs = search needs
 
--- src/segment.rt:95:25
 enum-known-x : tie.Need-enum-known-x
 enum-known-x c = search needs
 
--- src/segment.rt:96:22
 enum-known-x-2 : tie.Need-enum-known-x-2
 enum-known-x-2 c = search needs
 
--- src/segment.rt:96:28
 end-session-requires : tie.Need-end-session-requires
 end-session-requires c κs = search needs
 
--- src/segment.rt:98:25
 enum-told : tie.Need-enum-told
 enum-told c = search needs
 
--- src/segment.rt:98:25
 due-requires : tie.Need-due-requires
 due-requires c κs = search needs
 
--- src/segment.rt:98:25
 cast-count : tie.Need-cast-count
 cast-count c = search needs
 
--- src/segment.rt:99:28
 cast-at : tie.Need-cast-at
 cast-at c = search needs
 
--- src/segment.rt:99:28
 sub-at : tie.Need-sub-at
 sub-at c = omega (arith, takes-in-turn (c .before .before .before .before .before .before .before .before .before .args .s) (c .before .before .before .before .before .before .before .before .before .args .sg .number .0) (c .before .before .before .before .before .before .before .before .before .args .sg .room) (sym (c .before .before .before .before .judge-segment .ensures) ∙ c .before .before .enum-told .given .1))
 
--- src/segment.rt:99:22
 mul-at : tie.Need-mul-at
 mul-at c = search needs
 
--- src/segment.rt:100:13
 store-segment-requires : tie.Need-store-segment-requires
 store-segment-requires c κs = let a = c .before .before .before .before .before .before .before .before .before .before .args in let e = sym (c .before .before .before .before .before .judge-segment .ensures) ∙ c .before .before .before .enum-told .given .1 in let g = announced-agreed (a .s) (c .before .before .before .before .before .before .before .before .before .before .pre .1) in omega (arith, c .before .before .before .before .before .before .before .before .before .before .pre .0, c .before .before .before .before .before .before .before .before .before .before .pre .2, c .before .before .before .before .before .before .before .before .before .before .pre .3, c .before .before .due .ensures, g .fits, takes-in-turn (a .s) (a .sg .number .0) (a .sg .room) e, taken-inside (a .s) (a .sg .number .0) (a .sg .room) g e)
 
--- src/segment.rt:101:13
 take-requires : tie.Need-take-requires
 take-requires c κs = let a = c .before .before .before .before .before .before .before .before .before .before .before .before .before .before .args in let e = sym (c .before .before .before .before .before .before .before .before .before .judge-segment .ensures) ∙ c .before .before .before .before .before .before .before .enum-told .given .1 in (c .before .before .before .before .before .before .before .before .before .before .before .before .before .before .pre .0, omega (arith, announced-agreed (a .s) (c .before .before .before .before .before .before .before .before .before .before .before .before .before .before .pre .1), takes-in-turn (a .s) (a .sg .number .0) (a .sg .room) e), c .before .before .before .before .before .before .before .before .before .before .before .before .before .before .pre .4, c .before .before .before .before .before .before .before .before .before .before .before .before .before .before .pre .5, c .before .before .before .before .before .before .before .before .before .before .before .before .before .before .pre .6)
 
--- src/segment.rt:82:1
 returns : tie.Need-returns
 unfolding segmentOpen
 returns c = let a = c .before .before .before .before .before .before .before .before .args in by-case (λ (z : Judged). seenIn (now (a .buffer)) (onJudged z (recordAt (now (a .buffer))) (a .i) (a .s) (a .sg .number .0) (now (a .bytes)) (now (a .store)))) _ _ _ _ (c .before .before .before .judge-segment .ensures) (c .before .x .given .1) (wrote-none (now (a .buffer)) (c .before .before .before .before .before .before .before .before .pre .5) _ _ (now (a .store)) refl)
 
--- src/segment.rt:82:1
 same-length : tie.Need-same-length
 same-length c = search needs
 
--- src/segment.rt:82:1
 returns-2 : tie.Need-returns-2
 unfolding segmentOpen
 returns-2 c = let a = c .before .before .before .before .before .before .before .before .before .before .before .before .args in by-case (λ (z : Judged). seenIn (now (a .buffer)) (onJudged z (recordAt (now (a .buffer))) (a .i) (a .s) (a .sg .number .0) (now (a .bytes)) (now (a .store)))) _ _ _ _ (c .before .before .before .before .before .before .before .judge-segment .ensures) (c .before .before .before .before .before .x2 .given .1) (seen-put _ _ _ _ _ (c .before .before .end-session .ensures) refl)
 
--- src/segment.rt:82:1
 same-length-2 : tie.Need-same-length-2
 same-length-2 c = search needs
 
--- src/segment.rt:82:1
 same-length-3 : tie.Need-same-length-3
 same-length-3 c = search needs
 
--- src/segment.rt:82:1
 returns-3 : tie.Need-returns-3
 unfolding segmentOpen
 returns-3 c = let a = c .before .before .before .before .before .before .before .before .before .before .before .before .before .before .before .before .before .args in by-case (λ (z : Judged). seenIn (now (a .buffer)) (onJudged z (recordAt (now (a .buffer))) (a .i) (a .s) (a .sg .number .0) (now (a .bytes)) (now (a .store)))) _ _ _ _ (c .before .before .before .before .before .before .before .before .before .before .before .before .judge-segment .ensures) (c .before .before .before .before .before .before .before .before .before .before .enum-told .given .1) (seen-put _ _ _ _ _ (c .before .before .take .ensures) (c .before .before .before .before .before .before .store-segment .ensures ∙ ap (paste (now (a .store)) (4096 * a .i + 60 * (a .sg .number .0 - 1)) (dataAt (now (a .bytes)))) (c .before .before .before .before .before .before .before .before .before .due .ensures)))

@@ -16,39 +16,30 @@ use Rattle.record_bytes.proofs.word.word_at.Reads as word-at-reads
 use Rattle.session.proofs.segment.is_cts_due.Reads as is-cts-due-reads
 use Rattle.session.proofs.segment.next_cts.Reads as next-cts-reads
 
--- src/segment.rt:41:39
 word-at-requires : tie.Need-word-at-requires
 word-at-requires c κs = search needs
 
--- src/segment.rt:41:9
 brought-forward-requires : tie.Need-brought-forward-requires
 brought-forward-requires c κs = search needs
 
--- src/segment.rt:42:5
 put-progress-requires : tie.Need-put-progress-requires
 put-progress-requires c κs = search needs
 
--- src/segment.rt:49:8
 is-cts-due-requires : tie.Need-is-cts-due-requires
 is-cts-due-requires c κs = search needs
 
--- src/segment.rt:50:30
 next-cts-requires : tie.Need-next-cts-requires
 next-cts-requires c κs = search needs
 
--- src/segment.rt:50:9
 same-length : tie.Need-same-length
 same-length c = search needs
 
--- src/segment.rt:50:9
 returns : tie.Need-returns
 returns c = answered-put _ _ _ _ (then _ _ _ _ (sym (c .before .before .is-cts-due .ensures) ∙ c .before .if1 .taken) (ap Grant (c .next-cts .ensures))) (wrote-forward (now (c .before .before .before .before .before .before .before .before .before .before .before .args .buffer)) (c .before .before .before .before .before .before .before .before .before .before .before .pre .3) (c .before .before .before .before .before .before .before .before .before .before .before .args .i) (c .before .before .before .before .before .before .before .before .before .before .before .args .s) (c .before .before .before .before .before .before .before .brought-forward .result) (c .before .before .before .before .before .before .before .before .before .before .before .args .n .0) _ (c .before .before .before .before .before .put-progress .last .0) (c .before .before .before .before .before .before .before .before .before .before .before .pre .0) (c .before .before .before .before .before .before .before .before .before .before .before .pre .4) (c .before .before .before .before .before .before .before .brought-forward .ensures ∙ ap (advancedBy (c .before .before .before .before .before .before .before .before .before .before .before .args .s) (c .before .before .before .before .before .before .before .before .before .before .before .args .n .0)) (c .before .before .before .before .before .before .before .before .word-at .ensures)) (c .before .before .before .before .before .put-progress .ensures))
 
--- src/segment.rt:37:1
 same-length-2 : tie.Need-same-length-2
 same-length-2 c = search needs
 
--- src/segment.rt:37:1
 returns-2 : tie.Need-returns-2
 returns-2 c = answered-put _ _ _ _ (else _ _ _ _ (sym (c .before .before .is-cts-due .ensures) ∙ c .before .if1 .left) refl) (wrote-forward (now (c .before .before .before .before .before .before .before .before .before .before .before .args .buffer)) (c .before .before .before .before .before .before .before .before .before .before .before .pre .3) (c .before .before .before .before .before .before .before .before .before .before .before .args .i) (c .before .before .before .before .before .before .before .before .before .before .before .args .s) (c .before .before .before .before .before .before .before .brought-forward .result) (c .before .before .before .before .before .before .before .before .before .before .before .args .n .0) _ (c .before .before .before .before .before .put-progress .last .0) (c .before .before .before .before .before .before .before .before .before .before .before .pre .0) (c .before .before .before .before .before .before .before .before .before .before .before .pre .4) (c .before .before .before .before .before .before .before .brought-forward .ensures ∙ ap (advancedBy (c .before .before .before .before .before .before .before .before .before .before .before .args .s) (c .before .before .before .before .before .before .before .before .before .before .before .args .n .0)) (c .before .before .before .before .before .before .before .before .word-at .ensures)) (c .before .before .before .before .before .put-progress .ensures))
 

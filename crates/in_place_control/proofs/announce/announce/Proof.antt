@@ -10,43 +10,33 @@ use Rattle.in_place_control.proofs.announce.take_slot.Reads as take-slo
 use Rattle.session.proofs.announcement.is_misdirected.Reads as is-misdirected-reads
 use Rattle.session.proofs.announcement.judge_form.Reads as judge-form-reads
 
--- src/announce.rt:82:8
 is-misdirected-requires : tie.Need-is-misdirected-requires
 is-misdirected-requires c κs = search needs
 
--- src/announce.rt:83:9
 returns : tie.Need-returns
 returns c = let a = c .before .before .before .args in goes-wrong (now (a .buffer)) (c .before .before .before .pre .1) (a .k) (a .a) _ (c .before .is-misdirected .ensures) (c .if1 .taken)
 
--- src/announce.rt:85:11
 judge-form-requires : tie.Need-judge-form-requires
 judge-form-requires c κs = search needs
 
--- src/announce.rt:86:33
 enum-told : tie.Need-enum-told
 enum-told c = search needs
 
--- src/announce.rt:86:23
 take-slot-requires : tie.Need-take-slot-requires
 take-slot-requires c κs = search needs
 
--- src/announce.rt:87:19
 enum-known-n : tie.Need-enum-known-n
 enum-known-n c = search needs
 
--- src/announce.rt:87:25
 reject-requires : tie.Need-reject-requires
 reject-requires c κs = search needs
 
--- src/announce.rt:77:1
 same-length : tie.Need-same-length
 same-length c = search needs
 
--- src/announce.rt:77:1
 returns-2 : tie.Need-returns-2
 returns-2 c = let a = c .before .before .before .before .before .before .before .before .before .before .args in by-form (now (a .buffer)) (c .before .before .before .before .before .before .before .before .before .before .pre .1) (a .k) (a .a) _ (c .before .before .before .before .before .before .before .before .is-misdirected .ensures) (c .before .before .before .before .before .before .before .if1 .left) _ _ (c .before .before .before .before .before .before .judge-form .ensures) (c .before .before .before .before .enum-told .given .1) _ (c .before .before .take-slot .ensures)
 
--- src/announce.rt:77:1
 returns-3 : tie.Need-returns-3
 returns-3 c = let a = c .before .before .before .before .before .before .before .before .args in by-form (now (a .buffer)) (c .before .before .before .before .before .before .before .before .pre .1) (a .k) (a .a) _ (c .before .before .before .before .before .before .is-misdirected .ensures) (c .before .before .before .before .before .if1 .left) _ _ (c .before .before .before .before .judge-form .ensures) (c .before .before .n .given .1) _ (rejecting (now (a .buffer)) (c .before .before .before .before .before .before .before .before .pre .1) (a .k) (a .a) _ _ (c .reject .ensures))
 

@@ -14,43 +14,33 @@ use Rattle.record_bytes.proofs.word.word_at.Reads as word-at-reads
 use Rattle.session.proofs.announcement.first_cts.Reads as first-cts-reads
 use Rattle.session.proofs.announcement.open_session.Reads as open-session-reads
 
--- src/announce.rt:47:32
 word-at-requires : tie.Need-word-at-requires
 word-at-requires c κs = search needs
 
--- src/announce.rt:47:9
 open-session-requires : tie.Need-open-session-requires
 open-session-requires c κs = search needs
 
--- src/announce.rt:48:5
 put-slot-requires : tie.Need-put-slot-requires
 put-slot-requires c κs = search needs
 
--- src/announce.rt:57:36
 enum-told : tie.Need-enum-told
 enum-told c = search needs
 
--- src/announce.rt:57:36
 first-cts-requires : tie.Need-first-cts-requires
 first-cts-requires c κs = search needs
 
--- src/announce.rt:58:22
 enum-told-2 : tie.Need-enum-told-2
 enum-told-2 c = search needs
 
--- src/announce.rt:43:1
 same-length : tie.Need-same-length
 same-length c = search needs
 
--- src/announce.rt:43:1
 returns : tie.Need-returns
 returns c = let a = c .before .before .before .before .before .before .before .before .before .before .before .args in answered-put _ _ _ _ (then _ _ _ _ (ap isRts (c .before .enum-told .given .1)) (ap Grant (c .first-cts .ensures))) (wrote-open (now (a .buffer)) (c .before .before .before .before .before .before .before .before .before .before .before .pre .2) (a .i) _ (c .before .before .before .before .before .before .before .open-session .result) (c .before .before .before .before .before .put-slot .last .0) (c .before .before .before .before .before .before .before .before .before .before .before .pre .0) (c .before .before .before .before .before .before .before .open-session .ensures ∙ ap (sessionOf (a .k) (a .a)) (c .before .before .before .before .before .before .before .before .word-at .ensures)) (c .before .before .before .before .before .put-slot .ensures))
 
--- src/announce.rt:43:1
 same-length-2 : tie.Need-same-length-2
 same-length-2 c = search needs
 
--- src/announce.rt:43:1
 returns-2 : tie.Need-returns-2
 returns-2 c = let a = c .before .before .before .before .before .before .before .before .before .before .args in answered-put _ _ _ _ (else _ _ _ _ (ap isRts (c .enum-told2 .given .1)) refl) (wrote-open (now (a .buffer)) (c .before .before .before .before .before .before .before .before .before .before .pre .2) (a .i) _ (c .before .before .before .before .before .before .open-session .result) (c .before .before .before .before .put-slot .last .0) (c .before .before .before .before .before .before .before .before .before .before .pre .0) (c .before .before .before .before .before .before .open-session .ensures ∙ ap (sessionOf (a .k) (a .a)) (c .before .before .before .before .before .before .before .word-at .ensures)) (c .before .before .before .before .put-slot .ensures))
 

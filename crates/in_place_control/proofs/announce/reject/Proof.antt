@@ -4,19 +4,15 @@ use Rattle.in_place_control.proofs.announce.reject.Tie as tie
 use Rattle.in_place_control.proofs.announce.reject.Reads as reads
 use Rattle.in_place_control.proofs.announce.reject.Lts as lts
 
--- src/announce.rt:33:41
 enum-told : tie.Need-enum-told
 enum-told c = search needs
 
--- src/announce.rt:38:22
 enum-told-2 : tie.Need-enum-told-2
 enum-told-2 c = search needs
 
--- src/announce.rt:28:1
 returns : tie.Need-returns
 returns c = rw (c .enum-told .given .1)
 
--- src/announce.rt:28:1
 returns-2 : tie.Need-returns-2
 returns-2 c = rw (c .enum-told2 .given .1)
 

@@ -11,63 +11,48 @@ use Rattle.in_place_control.proofs.announce.reject.Reads as reject-read
 use Rattle.lent_record.proofs.search.find_free.Reads as find-free-reads
 use Rattle.lent_record.proofs.search.find_key.Reads as find-key-reads
 
--- src/announce.rt:67:11
 find-key-requires : tie.Need-find-key-requires
 find-key-requires c κs = search needs
 
--- src/announce.rt:68:38
 enum-told : tie.Need-enum-told
 enum-told c = search needs
 
--- src/announce.rt:68:25
 reject-requires : tie.Need-reject-requires
 reject-requires c κs = search needs
 
--- src/announce.rt:69:43
 enum-told-2 : tie.Need-enum-told-2
 enum-told-2 c = search needs
 
--- src/announce.rt:69:33
 find-free-requires : tie.Need-find-free-requires
 find-free-requires c κs = search needs
 
--- src/announce.rt:70:23
 enum-known-i : tie.Need-enum-known-i
 enum-known-i c = search needs
 
--- src/announce.rt:70:29
 open-in-requires : tie.Need-open-in-requires
 open-in-requires c κs = (within _ _ _ (c .before .before .before .before .find-free .ensures .1) (c .before .before .i .given .1), c .before .before .before .before .before .before .before .before .before .before .before .pre .0, c .before .before .before .before .before .before .before .before .before .before .before .pre .1)
 
--- src/announce.rt:71:44
 enum-told-3 : tie.Need-enum-told-3
 enum-told-3 c = search needs
 
--- src/announce.rt:71:31
 reject-requires-2 : tie.Need-reject-requires-2
 reject-requires-2 c κs = search needs
 
--- src/announce.rt:63:1
 same-length : tie.Need-same-length
 same-length c = search needs
 
--- src/announce.rt:63:1
 returns : tie.Need-returns
 returns c = let a = c .before .before .before .before .before .before .args in key-open (now (a .buffer)) (c .before .before .before .before .before .before .pre .1) (a .k) (a .a) _ (c .before .before .before .find-key .ensures .0) _ (c .before .enum-told .given .1) _ (c .reject .ensures)
 
--- src/announce.rt:63:1
 same-length-2 : tie.Need-same-length-2
 same-length-2 c = search needs
 
--- src/announce.rt:63:1
 returns-2 : tie.Need-returns-2
 returns-2 c = let a = c .before .before .before .before .before .before .before .before .before .before .before .before .before .before .args in slot-free (now (a .buffer)) (c .before .before .before .before .before .before .before .before .before .before .before .before .before .before .pre .1) (a .k) (a .a) _ (c .before .before .before .before .before .before .before .before .before .before .before .find-key .ensures .0) (c .before .before .before .before .before .before .before .before .before .enum-told2 .given .1) _ (c .before .before .before .before .before .before .before .find-free .ensures .0) _ (c .before .before .before .before .before .i .given .1) _ (c .before .before .open-in .ensures)
 
--- src/announce.rt:63:1
 same-length-3 : tie.Need-same-length-3
 same-length-3 c = search needs
 
--- src/announce.rt:63:1
 returns-3 : tie.Need-returns-3
 returns-3 c = let a = c .before .before .before .before .before .before .before .before .before .before .args in slots-full (now (a .buffer)) (c .before .before .before .before .before .before .before .before .before .before .pre .1) (a .k) (a .a) _ (c .before .before .before .before .before .before .before .find-key .ensures .0) (c .before .before .before .before .before .enum-told2 .given .1) _ (c .before .before .before .find-free .ensures .0) (c .before .enum-told3 .given .1) _ (c .reject2 .ensures)
 

@@ -12,24 +12,19 @@ use Rattle.in_place_control.proofs.end.abort_open.Lts as lts
 use Rattle.record_bytes.proofs.put.put_slot.Reads as put-slot-reads
 use Rattle.session.proofs.end.abort_matches.Reads as abort-matches-reads
 
--- src/end.rt:60:9
 abort-matches-requires : tie.Need-abort-matches-requires
 abort-matches-requires c κs = search needs
 
--- src/end.rt:61:9
 returns : tie.Need-returns
 unfolding abortOpen
 returns c = let a = c .before .before .before .args in not-matching (now (a .buffer)) _ _ _ (c .before .abort-matches .ensures) _ _ (c .if1 .taken) (unchanged (now (a .buffer)) (c .before .before .before .pre .2) _)
 
--- src/end.rt:63:5
 put-slot-requires : tie.Need-put-slot-requires
 put-slot-requires c κs = search needs
 
--- src/end.rt:56:1
 same-length : tie.Need-same-length
 same-length c = search needs
 
--- src/end.rt:56:1
 returns-2 : tie.Need-returns-2
 unfolding abortOpen
 returns-2 c = let a = c .before .before .before .before .before .before .before .before .args in matching (now (a .buffer)) _ _ _ (c .before .before .before .before .before .before .abort-matches .ensures) _ _ (c .before .before .before .before .before .if1 .left) (answered-put _ _ _ _ refl (wrote-free (now (a .buffer)) (c .before .before .before .before .before .before .before .before .pre .2) (a .i) (a .s) (c .before .before .before .put-slot .last .0) (c .before .before .before .before .before .before .before .before .pre .0) (c .before .before .before .before .before .before .before .before .pre .3) (c .before .before .before .put-slot .ensures)))

@@ -12,32 +12,25 @@ use Rattle.in_place_control.proofs.step.end_session.Reads as end-sessio
 use Rattle.record_bytes.proofs.put.put_slot.Reads as put-slot-reads
 use Rattle.session.proofs.end.status_matches.Reads as status-matches-reads
 
--- src/end.rt:31:9
 status-matches-requires : tie.Need-status-matches-requires
 status-matches-requires c κs = search needs
 
--- src/end.rt:32:9
 end-session-requires : tie.Need-end-session-requires
 end-session-requires c κs = search needs
 
--- src/end.rt:32:9
 same-length : tie.Need-same-length
 same-length c = search needs
 
--- src/end.rt:32:9
 returns : tie.Need-returns
 unfolding statusOpen
 returns c = let a = c .before .before .before .before .before .before .before .args in not-matching (now (a .buffer)) _ _ _ (c .before .before .before .before .before .status-matches .ensures) _ _ (c .before .before .before .before .if1 .taken) (c .before .before .end-session .ensures)
 
--- src/end.rt:34:5
 put-slot-requires : tie.Need-put-slot-requires
 put-slot-requires c κs = search needs
 
--- src/end.rt:27:1
 same-length-2 : tie.Need-same-length-2
 same-length-2 c = search needs
 
--- src/end.rt:27:1
 returns-2 : tie.Need-returns-2
 unfolding statusOpen
 returns-2 c = let a = c .before .before .before .before .before .before .before .before .before .before .args in matching (now (a .buffer)) _ _ _ (c .before .before .before .before .before .before .before .before .status-matches .ensures) _ _ (c .before .before .before .before .before .before .before .if1 .left) (answered-put _ _ _ _ refl (wrote-free (now (a .buffer)) (c .before .before .before .before .before .before .before .before .before .before .pre .2) (a .i) (a .s) (c .before .before .before .before .before .put-slot .last .0) (c .before .before .before .before .before .before .before .before .before .before .pre .0) (c .before .before .before .before .before .before .before .before .before .before .pre .3) (c .before .before .before .before .before .put-slot .ensures)))

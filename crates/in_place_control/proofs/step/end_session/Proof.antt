@@ -8,15 +8,12 @@ use Rattle.in_place_control.proofs.step.end_session.Reads as reads
 use Rattle.in_place_control.proofs.step.end_session.Lts as lts
 use Rattle.record_bytes.proofs.put.put_slot.Reads as put-slot-reads
 
--- src/segment.rt:64:5
 put-slot-requires : tie.Need-put-slot-requires
 put-slot-requires c κs = search needs
 
--- src/segment.rt:60:1
 same-length : tie.Need-same-length
 same-length c = search needs
 
--- src/segment.rt:60:1
 returns : tie.Need-returns
 returns c = answered-put _ _ _ _ refl (wrote-free (now (c .before .before .before .before .before .before .args .buffer)) (c .before .before .before .before .before .before .pre .2) (c .before .before .before .before .before .before .args .i) (c .before .before .before .before .before .before .args .s) (c .before .before .before .put-slot .last .0) (c .before .before .before .before .before .before .pre .0) (c .before .before .before .before .before .before .pre .3) (c .before .before .before .put-slot .ensures))
 

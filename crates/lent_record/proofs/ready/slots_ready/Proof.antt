@@ -7,23 +7,18 @@ use Rattle.lent_record.proofs.ready.slots_ready.Reads as reads
 use Rattle.lent_record.proofs.ready.slots_ready.Lts as lts
 use Rattle.lent_record.proofs.ready.two_ready.Reads as two-ready-reads
 
--- src/ready.rt:68:5
 two-ready-requires : tie.Need-two-ready-requires
 two-ready-requires c κs = search needs
 
--- src/ready.rt:69:11
 two-ready-requires-2 : tie.Need-two-ready-requires-2
 two-ready-requires-2 c κs = search needs
 
--- src/ready.rt:70:11
 two-ready-requires-3 : tie.Need-two-ready-requires-3
 two-ready-requires-3 c κs = search needs
 
--- src/ready.rt:71:11
 two-ready-requires-4 : tie.Need-two-ready-requires-4
 two-ready-requires-4 c κs = search needs
 
--- src/ready.rt:64:1
 returns : tie.Need-returns
 returns c = eight-ready (c .before .before .before .before .before .args .own) (now (c .before .before .before .before .before .args .bytes)) _ _ _ _ (c .before .before .before .two-ready .ensures) (c .before .before .two-ready2 .ensures) (c .before .two-ready3 .ensures) (c .two-ready4 .ensures)
 

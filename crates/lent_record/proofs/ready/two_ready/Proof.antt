@@ -14,47 +14,36 @@ use Rattle.lent_record.proofs.ready.two_ready.Reads as reads
 use Rattle.lent_record.proofs.ready.two_ready.Lts as lts
 use Rattle.lent_record.proofs.ready.open_ready.Reads as open-ready-reads
 
--- src/ready.rt:51:27
 mul-at : tie.Need-mul-at
 mul-at c = search needs
 
--- src/ready.rt:51:14
 add-at : tie.Need-add-at
 add-at c = search needs
 
--- src/ready.rt:52:8
 shared-slice-read-if1 : tie.Need-shared-slice-read-if1
 shared-slice-read-if1 c = search needs
 
--- src/ready.rt:53:13
 open-ready-requires : tie.Need-open-ready-requires
 open-ready-requires c κs = search needs
 
--- src/ready.rt:54:13
 returns : tie.Need-returns
 returns c = and-stop _ _ (sym (or-next _ _ _ (ne-eqb _ _ (c .before .before .if1 .taken)) (sym (sym (c .before .open-ready .ensures) ∙ not-true _ (c .if2 .taken)))))
 
--- src/ready.rt:57:14
 add-if3 : tie.Need-add-if3
 add-if3 c = search needs
 
--- src/ready.rt:57:8
 shared-slice-read-if3 : tie.Need-shared-slice-read-if3
 shared-slice-read-if3 c = search needs
 
--- src/ready.rt:58:9
 returns-2 : tie.Need-returns-2
 returns-2 c = let a = c .before .before .before .before .before .args in let w : 9 + 30 * (a .i + 1) ≡ 9 + 30 * a .i + 30 = omega arith in and-next _ _ _ (⊎-elim (λ w. sym (or-next _ _ _ (ne-eqb _ _ (w .0 .taken)) (sym (sym (w .1 .ensures) ∙ not-false _ (w .2 .left))))) (λ w. sym (or-stop _ _ (eq-eqb _ _ (w .left)))) (c .before .before .if1 .came)) (or-stop _ _ (ap (λ (k : ℕ). eqb (getD (now (a .bytes)) k 0) 0) w ∙ eq-eqb _ _ (c .if3 .taken)))
 
--- src/ready.rt:60:23
 add-open-ready : tie.Need-add-open-ready
 add-open-ready c = search needs
 
--- src/ready.rt:60:5
 open-ready-requires-2 : tie.Need-open-ready-requires-2
 open-ready-requires-2 c κs = search needs
 
--- src/ready.rt:47:1
 returns-3 : tie.Need-returns-3
 returns-3 c = let a = c .before .before .before .before .before .before .args in let w : 9 + 30 * (a .i + 1) ≡ 9 + 30 * a .i + 30 = omega arith in and-next _ _ _ (⊎-elim (λ w. sym (or-next _ _ _ (ne-eqb _ _ (w .0 .taken)) (sym (sym (w .1 .ensures) ∙ not-false _ (w .2 .left))))) (λ w. sym (or-stop _ _ (eq-eqb _ _ (w .left)))) (c .before .before .before .if1 .came)) (or-next _ _ _ (ap (λ (k : ℕ). eqb (getD (now (a .bytes)) k 0) 0) w ∙ ne-eqb _ _ (c .before .if3 .left)) (c .open-ready2 .ensures))
 

@@ -6,43 +6,33 @@ use Rattle.lent_record.proofs.search.holds_key.Tie as tie
 use Rattle.lent_record.proofs.search.holds_key.Reads as reads
 use Rattle.lent_record.proofs.search.holds_key.Lts as lts
 
--- src/search.rt:30:8
 shared-slice-read-if1 : tie.Need-shared-slice-read-if1
 shared-slice-read-if1 c = search needs
 
--- src/search.rt:31:9
 returns : tie.Need-returns
 returns c = no-first _ _ _ _ (ne-eqb _ _ (c .if1 .taken))
 
--- src/search.rt:33:14
 add-if2 : tie.Need-add-if2
 add-if2 c = search needs
 
--- src/search.rt:33:8
 shared-slice-read-if2 : tie.Need-shared-slice-read-if2
 shared-slice-read-if2 c = search needs
 
--- src/search.rt:34:9
 returns-2 : tie.Need-returns-2
 returns-2 c = no-second _ _ _ _ (eq-eqb _ _ (c .before .before .before .if1 .left)) (ne-eqb _ _ (c .if2 .taken))
 
--- src/search.rt:36:12
 add-result : tie.Need-add-result
 add-result c = search needs
 
--- src/search.rt:36:6
 shared-slice-read-result : tie.Need-shared-slice-read-result
 shared-slice-read-result c = search needs
 
--- src/search.rt:36:40
 add-result-2 : tie.Need-add-result-2
 add-result-2 c = search needs
 
--- src/search.rt:36:34
 shared-slice-read-result-2 : tie.Need-shared-slice-read-result-2
 shared-slice-read-result-2 c = search needs
 
--- src/search.rt:26:1
 returns-3 : tie.Need-returns-3
 returns-3 c = both-hold _ _ _ _ (eq-eqb _ _ (c .before .before .before .before .before .before .before .if1 .left)) (eq-eqb _ _ (c .before .before .before .before .if2 .left))
 

@@ -6,19 +6,15 @@ use Rattle.lent_record.proofs.search.is_free.Tie as tie
 use Rattle.lent_record.proofs.search.is_free.Reads as reads
 use Rattle.lent_record.proofs.search.is_free.Lts as lts
 
--- src/search.rt:21:24
 mul-result : tie.Need-mul-result
 mul-result c = search needs
 
--- src/search.rt:21:11
 add-result : tie.Need-add-result
 add-result c = search needs
 
--- src/search.rt:21:5
 shared-slice-read-result : tie.Need-shared-slice-read-result
 shared-slice-read-result c = search needs
 
--- src/search.rt:17:1
 returns : tie.Need-returns
 returns c = let a = c .before .args in freed (now (a .bytes)) (a .i) (search needs)
 

@@ -14,35 +14,27 @@ use Rattle.lent_record.proofs.search.slot_in.Reads as reads
 use Rattle.lent_record.proofs.search.slot_in.Lts as lts
 use Rattle.record_bytes.proofs.slot.slot_at.Reads as slot-at-reads
 
--- src/search.rt:66:27
 mul-at : tie.Need-mul-at
 mul-at c = search needs
 
--- src/search.rt:66:14
 add-at : tie.Need-add-at
 add-at c = search needs
 
--- src/search.rt:67:15
 add-end : tie.Need-add-end
 add-end c = search needs
 
--- src/search.rt:68:13
 sub-slot-at : tie.Need-sub-slot-at
 sub-slot-at c = search needs
 
--- src/search.rt:68:13
 part-slot-at-start : tie.Need-part-slot-at-start
 part-slot-at-start c = search needs
 
--- src/search.rt:68:13
 part-slot-at-end : tie.Need-part-slot-at-end
 part-slot-at-end c = search needs
 
--- src/search.rt:68:5
 slot-at-requires : tie.Need-slot-at-requires
 slot-at-requires c κs = search needs
 
--- src/search.rt:62:1
 returns : tie.Need-returns
 returns c = let b = now (c .before .before .before .args .bytes) in let i : ℕ = c .before .before .before .args .i in let k : ℕ = 9 + 30 * i in let e : k + 30 - k ≡ 30 = omega arith in c .slot-at .ensures ∙ ap (λ (n : ℕ). slotAt (take n (drop k b))) e ∙ ap slotAt (sym (piece-of b i (c .before .before .before .pre .1))) ∙ sym (slot-of b i)
 

@@ -21,35 +21,27 @@ Inv-loop bytes i₀ i = (length bytes ≡ 249) × (i ≤ 8) × (codesAll (drop i
 abbrev μ-loop : tie.MeasureT-loop
 μ-loop bytes i₀ i = 8 - i
 
--- src/layout.rt:97:5
 loop-holds : tie.Need-loop-holds Inv-loop μ-loop
 loop-holds c = (search needs, search needs, refl)
 
--- src/layout.rt:98:31
 mul-at : tie.Need-mul-at Inv-loop μ-loop
 mul-at c = search needs
 
--- src/layout.rt:98:18
 add-at : tie.Need-add-at Inv-loop μ-loop
 add-at c = search needs
 
--- src/layout.rt:99:22
 shared-slice-read-codes-ok : tie.Need-shared-slice-read-codes-ok Inv-loop μ-loop
 shared-slice-read-codes-ok c = search needs
 
--- src/layout.rt:99:39
 add-codes-ok : tie.Need-add-codes-ok Inv-loop μ-loop
 add-codes-ok c = search needs
 
--- src/layout.rt:99:33
 shared-slice-read-codes-ok-2 : tie.Need-shared-slice-read-codes-ok-2 Inv-loop μ-loop
 shared-slice-read-codes-ok-2 c = search needs
 
--- src/layout.rt:99:13
 codes-ok-requires : tie.Need-codes-ok-requires Inv-loop μ-loop
 codes-ok-requires c κs = search needs
 
--- src/layout.rt:100:13
 returns : tie.Need-returns Inv-loop μ-loop
 returns c =
     let a = c .before .before .before .before .before .before .before .args in
@@ -58,15 +50,12 @@ returns c =
     ∙ sym (codes-turn (now (a .bytes)) (at .i) (search needs))
     ∙ at .inv .2
 
--- src/layout.rt:102:13
 add-i : tie.Need-add-i Inv-loop μ-loop
 add-i c = search needs
 
--- src/layout.rt:97:5
 loop-less : tie.Need-loop-less Inv-loop μ-loop
 loop-less c = search needs
 
--- src/layout.rt:97:5
 loop-again : tie.Need-loop-again Inv-loop μ-loop
 loop-again c =
     let a = c .before .before .before .before .before .before .before .args in
@@ -78,7 +67,6 @@ loop-again c =
           ∙ at .inv .2,
     )
 
--- src/layout.rt:92:1
 returns-2 : tie.Need-returns-2 Inv-loop μ-loop
 unfolding codesAll
 returns-2 c =

@@ -17,31 +17,24 @@ Inv-loop out₀ at src n j₀ out j = (out ≡ paste out₀ at src j) × (j ≤ 
 abbrev μ-loop : tie.MeasureT-loop
 μ-loop out₀ at src n j₀ out j = n - j
 
--- src/layout.rt:42:5
 loop-holds : tie.Need-loop-holds Inv-loop μ-loop
 loop-holds c = (paste-zero (now (c .args .out)) (c .args .at) (now (c .args .src)), search needs, refl)
 
--- src/layout.rt:43:23
 shared-slice-read-out : tie.Need-shared-slice-read-out Inv-loop μ-loop
 shared-slice-read-out c = search needs
 
--- src/layout.rt:43:13
 add-out : tie.Need-add-out Inv-loop μ-loop
 add-out c = search needs
 
--- src/layout.rt:43:9
 slice-write-out : tie.Need-slice-write-out Inv-loop μ-loop
 slice-write-out c = search needs
 
--- src/layout.rt:44:13
 add-j : tie.Need-add-j Inv-loop μ-loop
 add-j c = search needs
 
--- src/layout.rt:42:5
 loop-less : tie.Need-loop-less Inv-loop μ-loop
 loop-less c = search needs
 
--- src/layout.rt:42:5
 loop-again : tie.Need-loop-again Inv-loop μ-loop
 loop-again c =
     let a = c .before .before .before .args in
@@ -53,11 +46,9 @@ loop-again c =
       simp length-set (at .inv .2),
     )
 
--- src/layout.rt:37:1
 same-length : tie.Need-same-length Inv-loop μ-loop
 same-length c = search needs
 
--- src/layout.rt:37:1
 returns : tie.Need-returns Inv-loop μ-loop
 returns c =
     let a = c .before .before .args in

@@ -8,39 +8,30 @@ use Rattle.record_bytes.proofs.layout.head_bytes.Reads as reads
 use Rattle.record_bytes.proofs.layout.head_bytes.Lts as lts
 use Rattle.frame.proofs.octet.low_byte.Reads as low-byte-reads
 
--- src/layout.rt:53:9
 low-byte-requires : tie.Need-low-byte-requires
 low-byte-requires c κs = search needs
 
--- src/layout.rt:54:9
 low-byte-requires-2 : tie.Need-low-byte-requires-2
 low-byte-requires-2 c κs = search needs
 
--- src/layout.rt:55:9
 low-byte-requires-3 : tie.Need-low-byte-requires-3
 low-byte-requires-3 c κs = search needs
 
--- src/layout.rt:56:9
 low-byte-requires-4 : tie.Need-low-byte-requires-4
 low-byte-requires-4 c κs = search needs
 
--- src/layout.rt:57:9
 low-byte-requires-5 : tie.Need-low-byte-requires-5
 low-byte-requires-5 c κs = search needs
 
--- src/layout.rt:58:9
 low-byte-requires-6 : tie.Need-low-byte-requires-6
 low-byte-requires-6 c κs = search needs
 
--- src/layout.rt:59:9
 low-byte-requires-7 : tie.Need-low-byte-requires-7
 low-byte-requires-7 c κs = search needs
 
--- src/layout.rt:60:9
 low-byte-requires-8 : tie.Need-low-byte-requires-8
 low-byte-requires-8 c κs = search needs
 
--- src/layout.rt:48:1
 returns : tie.Need-returns
 unfolding headBytes
 returns c = same-byte _ (low4-bytes _ (c .before .before .before .before .before .before .before .before .before .before .before .before .before .low-byte .ensures) (c .before .before .before .before .before .before .before .before .before .before .before .low-byte2 .ensures) (c .before .before .before .before .before .before .before .before .before .low-byte3 .ensures) (c .before .before .before .before .before .before .before .low-byte4 .ensures) (low4-bytes _ (c .before .before .before .before .before .before .low-byte5 .ensures) (c .before .before .before .before .low-byte6 .ensures) (c .before .before .low-byte7 .ensures) (c .low-byte8 .ensures) (refl)))

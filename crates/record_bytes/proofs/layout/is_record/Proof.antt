@@ -13,16 +13,13 @@ use Rattle.record_bytes.proofs.layout.is_record.Reads as reads
 use Rattle.record_bytes.proofs.layout.is_record.Lts as lts
 use Rattle.record_bytes.proofs.layout.codes_all.Reads as codes-all-reads
 
--- src/layout.rt:111:9
 returns : tie.Need-returns
 unfolding isRecord
 returns c = then (not (eqb (length (now (c .before .before .args .bytes))) 249)) _ _ _ (ap not (ne-eqb _ _ (c .if1 .taken))) refl
 
--- src/layout.rt:113:5
 codes-all-requires : tie.Need-codes-all-requires
 codes-all-requires c κs = search needs
 
--- src/layout.rt:107:1
 returns-2 : tie.Need-returns-2
 unfolding isRecord
 returns-2 c = else (not (eqb (length (now (c .before .before .before .args .bytes))) 249)) _ _ _ (ap not (eq-eqb _ _ (c .before .if1 .left))) (c .codes-all .ensures)

@@ -6,23 +6,18 @@ use Rattle.record_bytes.proofs.layout.record_at.Lts as lts
 use Rattle.record_bytes.proofs.layout.slots_at.Reads as slots-at-reads
 use Rattle.record_bytes.proofs.word.word_at.Reads as word-at-reads
 
--- src/layout.rt:138:22
 shared-slice-read-t3 : tie.Need-shared-slice-read-t3
 shared-slice-read-t3 c = search needs
 
--- src/layout.rt:139:16
 word-at-requires : tie.Need-word-at-requires
 word-at-requires c κs = search needs
 
--- src/layout.rt:140:15
 word-at-requires-2 : tie.Need-word-at-requires-2
 word-at-requires-2 c κs = search needs
 
--- src/layout.rt:141:16
 slots-at-requires : tie.Need-slots-at-requires
 slots-at-requires c κs = search needs
 
--- src/layout.rt:133:1
 returns : tie.Need-returns
 returns c = cc
 

@@ -22,55 +22,42 @@ Inv-loop bytes out₀ i₀ out i = (length bytes ≡ 249) × (length out₀ ≡ 
 abbrev μ-loop : tie.MeasureT-loop
 μ-loop bytes out₀ i₀ out i = 8 - i
 
--- src/layout.rt:124:5
 loop-holds : tie.Need-loop-holds Inv-loop μ-loop
 loop-holds c = (search needs, refl, search needs, refl, refl)
 
--- src/layout.rt:125:31
 mul-at : tie.Need-mul-at Inv-loop μ-loop
 mul-at c = search needs
 
--- src/layout.rt:125:18
 add-at : tie.Need-add-at Inv-loop μ-loop
 add-at c = search needs
 
--- src/layout.rt:126:19
 add-end : tie.Need-add-end Inv-loop μ-loop
 add-end c = search needs
 
--- src/layout.rt:127:26
 sub-slot-at : tie.Need-sub-slot-at Inv-loop μ-loop
 sub-slot-at c = search needs
 
--- src/layout.rt:127:26
 part-slot-at-start : tie.Need-part-slot-at-start Inv-loop μ-loop
 part-slot-at-start c = search needs
 
--- src/layout.rt:127:26
 part-slot-at-end : tie.Need-part-slot-at-end Inv-loop μ-loop
 part-slot-at-end c = search needs
 
--- src/layout.rt:127:18
 slot-at-requires : tie.Need-slot-at-requires Inv-loop μ-loop
 slot-at-requires c κs = search needs
 
--- src/layout.rt:127:9
 mul-out : tie.Need-mul-out Inv-loop μ-loop
 mul-out c = search needs
 
--- src/layout.rt:127:9
 array-set-from-out : tie.Need-array-set-from-out Inv-loop μ-loop
 array-set-from-out c = search needs
 
--- src/layout.rt:128:13
 add-i : tie.Need-add-i Inv-loop μ-loop
 add-i c = search needs
 
--- src/layout.rt:124:5
 loop-less : tie.Need-loop-less Inv-loop μ-loop
 loop-less c = search needs
 
--- src/layout.rt:124:5
 loop-again : tie.Need-loop-again Inv-loop μ-loop
 loop-again c =
     let a = c .before .before .before .before .before .args in
@@ -89,7 +76,6 @@ loop-again c =
           ∙ filled-turn slotAt (piecesOf b) o (at .i) [] freeSlot (omega (arith, length-pieces 8 (drop 9 b))) (omega arith),
     )
 
--- src/layout.rt:116:1
 returns : tie.Need-returns Inv-loop μ-loop
 returns c =
     let a = c .before .before .before .args in

@@ -16,32 +16,25 @@ use Rattle.record_bytes.proofs.layout.copy.Reads as copy-reads
 use Rattle.record_bytes.proofs.layout.head_bytes.Reads as head-bytes-reads
 use Rattle.record_bytes.proofs.layout.write_slots.Reads as write-slots-reads
 
--- src/layout.rt:82:9
 returns : tie.Need-returns
 unfolding storedIn
 returns c = then (not (eqb (length (now (c .before .before .args .out))) 249)) _ _ _ (ap not (ne-eqb _ _ (c .if1 .taken))) refl
 
--- src/layout.rt:84:16
 head-bytes-requires : tie.Need-head-bytes-requires
 head-bytes-requires c κs = search needs
 
--- src/layout.rt:86:18
 slice-aggregate-copy : tie.Need-slice-aggregate-copy
 slice-aggregate-copy c = search needs
 
--- src/layout.rt:86:5
 copy-requires : tie.Need-copy-requires
 copy-requires c κs = search needs
 
--- src/layout.rt:87:5
 write-slots-requires : tie.Need-write-slots-requires
 write-slots-requires c κs = search needs
 
--- src/layout.rt:78:1
 same-length : tie.Need-same-length
 same-length c = search needs
 
--- src/layout.rt:78:1
 returns-2 : tie.Need-returns-2
 returns-2 c =
     let a = c .before .before .before .before .before .before .before .before .before .before .before .before .before .args in

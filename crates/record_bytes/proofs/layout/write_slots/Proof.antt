@@ -20,47 +20,36 @@ Inv-loop out₀ slots i₀ out i = (length slots ≡ 8) × (length out₀ ≡ 24
 abbrev μ-loop : tie.MeasureT-loop
 μ-loop out₀ slots i₀ out i = 8 - i
 
--- src/layout.rt:70:5
 loop-holds : tie.Need-loop-holds Inv-loop μ-loop
 loop-holds c = (search needs, search needs, search needs, search needs, refl)
 
--- src/layout.rt:71:32
 mul-slot-bytes : tie.Need-mul-slot-bytes Inv-loop μ-loop
 mul-slot-bytes c = search needs
 
--- src/layout.rt:71:32
 array-copy-out-slot-bytes : tie.Need-array-copy-out-slot-bytes Inv-loop μ-loop
 array-copy-out-slot-bytes c = search needs
 
--- src/layout.rt:71:21
 slot-bytes-requires : tie.Need-slot-bytes-requires Inv-loop μ-loop
 slot-bytes-requires c κs = search needs
 
--- src/layout.rt:72:32
 mul-copy : tie.Need-mul-copy Inv-loop μ-loop
 mul-copy c = search needs
 
--- src/layout.rt:72:19
 add-copy : tie.Need-add-copy Inv-loop μ-loop
 add-copy c = search needs
 
--- src/layout.rt:72:48
 slice-aggregate-copy : tie.Need-slice-aggregate-copy Inv-loop μ-loop
 slice-aggregate-copy c = search needs
 
--- src/layout.rt:72:9
 copy-requires : tie.Need-copy-requires Inv-loop μ-loop
 copy-requires c κs = search needs
 
--- src/layout.rt:73:13
 add-i : tie.Need-add-i Inv-loop μ-loop
 add-i c = search needs
 
--- src/layout.rt:70:5
 loop-less : tie.Need-loop-less Inv-loop μ-loop
 loop-less c = search needs
 
--- src/layout.rt:70:5
 loop-again : tie.Need-loop-again Inv-loop μ-loop
 loop-again c =
     let a = c .before .before .before .before .before .before .before .before .before .before .args in
@@ -75,11 +64,9 @@ loop-again c =
       slots-turn (a .t1) (now (a .out)) (at .out) o _ (at .i) _ (at .inv .0) (at .inv .2) (search needs) e q (at .inv .4),
     )
 
--- src/layout.rt:65:1
 same-length : tie.Need-same-length Inv-loop μ-loop
 same-length c = search needs
 
--- src/layout.rt:65:1
 returns : tie.Need-returns Inv-loop μ-loop
 returns c =
     let at = c .before .loop in

@@ -8,35 +8,27 @@ use Rattle.record_bytes.proofs.put.keep_slot.Lts as lts
 use Rattle.record_bytes.proofs.put.put_slot.Reads as put-slot-reads
 use Rattle.record_bytes.proofs.put.stays_free.Reads as stays-free-reads
 
--- src/put.rt:43:27
 mul-at : tie.Need-mul-at
 mul-at c = search needs
 
--- src/put.rt:43:14
 add-at : tie.Need-add-at
 add-at c = search needs
 
--- src/put.rt:44:22
 slice-read-stays-free : tie.Need-slice-read-stays-free
 slice-read-stays-free c = search needs
 
--- src/put.rt:44:8
 stays-free-requires : tie.Need-stays-free-requires
 stays-free-requires c κs = search needs
 
--- src/put.rt:45:9
 returns : tie.Need-returns
 returns c = kept-free (now (c .before .before .before .before .args .out)) (c .before .before .before .before .args .i) (c .before .before .before .before .args .s) (search needs) (search needs) (c .before .stays-free .result) (c .before .stays-free .ensures) (c .if1 .taken)
 
--- src/put.rt:47:5
 put-slot-requires : tie.Need-put-slot-requires
 put-slot-requires c κs = search needs
 
--- src/put.rt:39:1
 same-length : tie.Need-same-length
 same-length c = search needs
 
--- src/put.rt:39:1
 returns-2 : tie.Need-returns-2
 returns-2 c = kept-put (now (c .before .before .before .before .before .before .before .before .args .out)) (c .before .before .before .before .before .before .before .before .args .i) (c .before .before .before .before .before .before .before .before .args .s) (search needs) (search needs) (c .before .before .before .before .before .stays-free .result) (c .before .before .put-slot .last .0) (c .before .before .before .before .before .stays-free .ensures) (c .before .before .before .before .if1 .left) (c .before .before .put-slot .ensures)
 

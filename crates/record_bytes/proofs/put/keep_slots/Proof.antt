@@ -26,39 +26,30 @@ Inv-loop out₀ slots i₀ out i =
 abbrev μ-loop : tie.MeasureT-loop
 μ-loop out₀ slots i₀ out i = 8 - i
 
--- src/put.rt:55:5
 loop-holds : tie.Need-loop-holds Inv-loop μ-loop
 loop-holds c = (search needs, search needs, search needs, search needs, refl, refl)
 
--- src/put.rt:56:27
 mul-keep-slot : tie.Need-mul-keep-slot Inv-loop μ-loop
 mul-keep-slot c = search needs
 
--- src/put.rt:56:27
 array-copy-out-keep-slot : tie.Need-array-copy-out-keep-slot Inv-loop μ-loop
 array-copy-out-keep-slot c = search needs
 
--- src/put.rt:56:9
 keep-slot-requires : tie.Need-keep-slot-requires Inv-loop μ-loop
 keep-slot-requires c κs = search needs
 
--- src/put.rt:57:13
 add-i : tie.Need-add-i Inv-loop μ-loop
 add-i c = search needs
 
--- src/put.rt:55:5
 loop-less : tie.Need-loop-less Inv-loop μ-loop
 loop-less c = search needs
 
--- src/put.rt:55:5
 loop-again : tie.Need-loop-again Inv-loop μ-loop
 loop-again c = (search needs, search needs, keeps-long (c .before .before .before .before .before .before .before .before .args .t1) (now (c .before .before .before .before .before .before .before .before .args .out)) (c .before .before .before .before .before .before .loop .out) (c .before .before .keep-slot .last .0) (c .before .before .before .before .before .before .loop .i) _ (c .before .before .before .before .before .before .loop .inv .0) (c .before .before .before .before .before .before .loop .inv .2) (search needs) (c .before .before .keep-slot .ensures), search needs, keeps-turn (c .before .before .before .before .before .before .before .before .args .t1) (now (c .before .before .before .before .before .before .before .before .args .out)) (c .before .before .before .before .before .before .loop .out) (c .before .before .keep-slot .last .0) (c .before .before .before .before .before .before .loop .i) _ (c .before .before .before .before .before .before .loop .inv .0) (c .before .before .before .before .before .before .loop .inv .2) (search needs) (c .before .before .keep-slot .ensures) (c .before .before .before .before .before .before .loop .inv .5) (c .before .before .before .before .before .before .loop .inv .4), keeps-same (c .before .before .before .before .before .before .before .before .args .t1) (now (c .before .before .before .before .before .before .before .before .args .out)) (c .before .before .before .before .before .before .loop .out) (c .before .before .keep-slot .last .0) (c .before .before .before .before .before .before .loop .i) _ (c .before .before .before .before .before .before .loop .inv .0) (c .before .before .before .before .before .before .loop .inv .2) (search needs) (c .before .before .keep-slot .ensures) (c .before .before .before .before .before .before .loop .inv .5))
 
--- src/put.rt:50:1
 same-length : tie.Need-same-length Inv-loop μ-loop
 same-length c = search needs
 
--- src/put.rt:50:1
 returns : tie.Need-returns Inv-loop μ-loop
 returns c = keeps-all (c .before .before .before .args .t1) (c .before .loop .out) (now (c .before .before .before .args .out)) _ (c .before .loop .i) (c .before .loop .inv .0) (c .before .loop .inv .2) (omega arith) (c .before .loop .inv .4)
 

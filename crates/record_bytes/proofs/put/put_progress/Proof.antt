@@ -11,31 +11,24 @@ use Rattle.record_bytes.proofs.put.put_progress.Lts as lts
 use Rattle.record_bytes.proofs.layout.copy.Reads as copy-reads
 use Rattle.record_bytes.proofs.slot.progress_bytes.Reads as progress-bytes-reads
 
--- src/put.rt:38:17
 progress-bytes-requires : tie.Need-progress-bytes-requires
 progress-bytes-requires c κs = search needs
 
--- src/put.rt:39:20
 mul-copy : tie.Need-mul-copy
 mul-copy c = search needs
 
--- src/put.rt:39:15
 add-copy : tie.Need-add-copy
 add-copy c = search needs
 
--- src/put.rt:39:36
 slice-aggregate-copy : tie.Need-slice-aggregate-copy
 slice-aggregate-copy c = search needs
 
--- src/put.rt:39:5
 copy-requires : tie.Need-copy-requires
 copy-requires c κs = search needs
 
--- src/put.rt:34:1
 same-length : tie.Need-same-length
 same-length c = search needs
 
--- src/put.rt:34:1
 returns : tie.Need-returns
 returns c = c .before .before .copy .ensures ∙ ap (λ (l : List ℕ). paste (now (c .before .before .before .before .before .before .before .args .out)) (27 + 30 * c .before .before .before .before .before .before .before .args .i) l 12) (c .before .before .before .before .before .progress-bytes .ensures)
 

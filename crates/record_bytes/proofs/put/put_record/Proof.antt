@@ -9,27 +9,21 @@ use Rattle.record_bytes.proofs.layout.copy.Reads as copy-reads
 use Rattle.record_bytes.proofs.layout.head_bytes.Reads as head-bytes-reads
 use Rattle.record_bytes.proofs.put.keep_slots.Reads as keep-slots-reads
 
--- src/put.rt:66:16
 head-bytes-requires : tie.Need-head-bytes-requires
 head-bytes-requires c κs = search needs
 
--- src/put.rt:68:18
 slice-aggregate-copy : tie.Need-slice-aggregate-copy
 slice-aggregate-copy c = search needs
 
--- src/put.rt:68:5
 copy-requires : tie.Need-copy-requires
 copy-requires c κs = search needs
 
--- src/put.rt:69:5
 keep-slots-requires : tie.Need-keep-slots-requires
 keep-slots-requires c κs = search needs
 
--- src/put.rt:62:1
 same-length : tie.Need-same-length
 same-length c = search needs
 
--- src/put.rt:62:1
 returns : tie.Need-returns
 returns c = record-put (c .before .before .before .before .before .before .before .before .before .before .before .before .args .r) (now (c .before .before .before .before .before .before .before .before .before .before .before .before .args .out)) (c .before .before .before .before .before .before .copy .last .0) (c .before .before .keep-slots .last .1 .0) (c .before .before .before .before .before .before .before .before .before .before .head-bytes .result) (search needs) (c .before .before .before .before .before .before .before .before .before .before .head-bytes .ensures) (c .before .before .before .before .before .before .copy .ensures) (c .before .before .keep-slots .ensures)
 

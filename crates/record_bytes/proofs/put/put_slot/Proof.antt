@@ -12,31 +12,24 @@ use Rattle.record_bytes.proofs.put.put_slot.Lts as lts
 use Rattle.record_bytes.proofs.layout.copy.Reads as copy-reads
 use Rattle.record_bytes.proofs.slot.slot_bytes.Reads as slot-bytes-reads
 
--- src/put.rt:27:17
 slot-bytes-requires : tie.Need-slot-bytes-requires
 slot-bytes-requires c κs = search needs
 
--- src/put.rt:28:28
 mul-copy : tie.Need-mul-copy
 mul-copy c = search needs
 
--- src/put.rt:28:15
 add-copy : tie.Need-add-copy
 add-copy c = search needs
 
--- src/put.rt:28:44
 slice-aggregate-copy : tie.Need-slice-aggregate-copy
 slice-aggregate-copy c = search needs
 
--- src/put.rt:28:5
 copy-requires : tie.Need-copy-requires
 copy-requires c κs = search needs
 
--- src/put.rt:23:1
 same-length : tie.Need-same-length
 same-length c = search needs
 
--- src/put.rt:23:1
 returns : tie.Need-returns
 returns c = c .before .before .copy .ensures ∙ ap (λ (l : List ℕ). paste (now (c .before .before .before .before .before .before .before .args .out)) (9 + 30 * c .before .before .before .before .before .before .before .args .i) l 30) (c .before .before .before .before .before .slot-bytes .ensures)
 

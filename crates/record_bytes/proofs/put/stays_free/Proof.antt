@@ -8,11 +8,9 @@ use Rattle.record_bytes.proofs.put.stays_free.Reads as reads
 use Rattle.record_bytes.proofs.put.stays_free.Lts as lts
 use Rattle.slots.proofs.search.is_free.Reads as is-free-reads
 
--- src/put.rt:35:5
 is-free-requires : tie.Need-is-free-requires
 is-free-requires c κs = search needs
 
--- src/put.rt:32:1
 returns : tie.Need-returns
 returns c = ap (λ (t : Bool). t && eqb (c .before .args .code) 0) (c .is-free .ensures)
 

@@ -7,11 +7,9 @@ use Rattle.record_bytes.proofs.slot.kind_at.Tie as tie
 use Rattle.record_bytes.proofs.slot.kind_at.Reads as reads
 use Rattle.record_bytes.proofs.slot.kind_at.Lts as lts
 
--- src/slot.rt:39:9
 returns : tie.Need-returns
 returns c = then _ _ _ _ (eq-eqb _ _ (c .if1 .taken)) refl
 
--- src/slot.rt:35:1
 returns-2 : tie.Need-returns-2
 returns-2 c = else _ _ _ _ (ne-eqb _ _ (c .if1 .left)) refl
 

@@ -7,55 +7,42 @@ use Rattle.record_bytes.proofs.slot.progress_bytes.Reads as reads
 use Rattle.record_bytes.proofs.slot.progress_bytes.Lts as lts
 use Rattle.frame.proofs.octet.low_byte.Reads as low-byte-reads
 
--- src/slot.rt:87:9
 low-byte-requires : tie.Need-low-byte-requires
 low-byte-requires c κs = search needs
 
--- src/slot.rt:88:9
 low-byte-requires-2 : tie.Need-low-byte-requires-2
 low-byte-requires-2 c κs = search needs
 
--- src/slot.rt:89:9
 low-byte-requires-3 : tie.Need-low-byte-requires-3
 low-byte-requires-3 c κs = search needs
 
--- src/slot.rt:90:9
 low-byte-requires-4 : tie.Need-low-byte-requires-4
 low-byte-requires-4 c κs = search needs
 
--- src/slot.rt:91:9
 low-byte-requires-5 : tie.Need-low-byte-requires-5
 low-byte-requires-5 c κs = search needs
 
--- src/slot.rt:92:9
 low-byte-requires-6 : tie.Need-low-byte-requires-6
 low-byte-requires-6 c κs = search needs
 
--- src/slot.rt:93:9
 low-byte-requires-7 : tie.Need-low-byte-requires-7
 low-byte-requires-7 c κs = search needs
 
--- src/slot.rt:94:9
 low-byte-requires-8 : tie.Need-low-byte-requires-8
 low-byte-requires-8 c κs = search needs
 
--- src/slot.rt:95:9
 low-byte-requires-9 : tie.Need-low-byte-requires-9
 low-byte-requires-9 c κs = search needs
 
--- src/slot.rt:96:9
 low-byte-requires-10 : tie.Need-low-byte-requires-10
 low-byte-requires-10 c κs = search needs
 
--- src/slot.rt:97:9
 low-byte-requires-11 : tie.Need-low-byte-requires-11
 low-byte-requires-11 c κs = search needs
 
--- src/slot.rt:98:9
 low-byte-requires-12 : tie.Need-low-byte-requires-12
 low-byte-requires-12 c κs = search needs
 
--- src/slot.rt:83:1
 returns : tie.Need-returns
 returns c = low4-bytes _ (c .before .before .before .before .before .before .before .before .before .before .before .before .before .before .before .before .before .before .before .before .low-byte .ensures) (c .before .before .before .before .before .before .before .before .before .before .before .before .before .before .before .before .before .before .low-byte2 .ensures) (c .before .before .before .before .before .before .before .before .before .before .before .before .before .before .before .before .low-byte3 .ensures) (c .before .before .before .before .before .before .before .before .before .before .before .before .before .before .low-byte4 .ensures) (low4-bytes _ (c .before .before .before .before .before .before .before .before .before .before .before .before .before .low-byte5 .ensures) (c .before .before .before .before .before .before .before .before .before .before .before .low-byte6 .ensures) (c .before .before .before .before .before .before .before .before .before .low-byte7 .ensures) (c .before .before .before .before .before .before .before .low-byte8 .ensures) (low4-bytes _ (c .before .before .before .before .before .before .low-byte9 .ensures) (c .before .before .before .before .low-byte10 .ensures) (c .before .before .low-byte11 .ensures) (c .low-byte12 .ensures) refl))
 

@@ -6,55 +6,42 @@ use Rattle.record_bytes.proofs.slot.session_at.Lts as lts
 use Rattle.record_bytes.proofs.slot.kind_at.Reads as kind-at-reads
 use Rattle.record_bytes.proofs.word.word_at.Reads as word-at-reads
 
--- src/slot.rt:97:24
 shared-slice-read-kind-at : tie.Need-shared-slice-read-kind-at
 shared-slice-read-kind-at c = search needs
 
--- src/slot.rt:97:9
 kind-at-requires : tie.Need-kind-at-requires
 kind-at-requires c κs = search needs
 
--- src/slot.rt:100:25
 shared-slice-read-t4 : tie.Need-shared-slice-read-t4
 shared-slice-read-t4 c = search needs
 
--- src/slot.rt:101:25
 shared-slice-read-t8 : tie.Need-shared-slice-read-t8
 shared-slice-read-t8 c = search needs
 
--- src/slot.rt:102:36
 shared-slice-read-t11 : tie.Need-shared-slice-read-t11
 shared-slice-read-t11 c = search needs
 
--- src/slot.rt:105:26
 word-at-requires : tie.Need-word-at-requires
 word-at-requires c κs = search needs
 
--- src/slot.rt:106:33
 word-at-requires-2 : tie.Need-word-at-requires-2
 word-at-requires-2 c κs = search needs
 
--- src/slot.rt:107:14
 shared-slice-read-t19 : tie.Need-shared-slice-read-t19
 shared-slice-read-t19 c = search needs
 
--- src/slot.rt:108:14
 word-at-requires-3 : tie.Need-word-at-requires-3
 word-at-requires-3 c κs = search needs
 
--- src/slot.rt:109:29
 word-at-requires-4 : tie.Need-word-at-requires-4
 word-at-requires-4 c κs = search needs
 
--- src/slot.rt:110:32
 word-at-requires-5 : tie.Need-word-at-requires-5
 word-at-requires-5 c κs = search needs
 
--- src/slot.rt:111:15
 word-at-requires-6 : tie.Need-word-at-requires-6
 word-at-requires-6 c κs = search needs
 
--- src/slot.rt:93:1
 returns : tie.Need-returns
 returns c = cc
 

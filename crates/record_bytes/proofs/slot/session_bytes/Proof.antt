@@ -9,107 +9,81 @@ use Rattle.record_bytes.proofs.slot.session_bytes.Lts as lts
 use Rattle.frame.proofs.octet.low_byte.Reads as low-byte-reads
 use Rattle.record_bytes.proofs.slot.kind_byte.Reads as kind-byte-reads
 
--- src/slot.rt:50:9
 kind-byte-requires : tie.Need-kind-byte-requires
 kind-byte-requires c κs = search needs
 
--- src/slot.rt:54:9
 low-byte-requires : tie.Need-low-byte-requires
 low-byte-requires c κs = search needs
 
--- src/slot.rt:55:9
 low-byte-requires-2 : tie.Need-low-byte-requires-2
 low-byte-requires-2 c κs = search needs
 
--- src/slot.rt:56:9
 low-byte-requires-3 : tie.Need-low-byte-requires-3
 low-byte-requires-3 c κs = search needs
 
--- src/slot.rt:57:9
 low-byte-requires-4 : tie.Need-low-byte-requires-4
 low-byte-requires-4 c κs = search needs
 
--- src/slot.rt:58:9
 low-byte-requires-5 : tie.Need-low-byte-requires-5
 low-byte-requires-5 c κs = search needs
 
--- src/slot.rt:59:9
 low-byte-requires-6 : tie.Need-low-byte-requires-6
 low-byte-requires-6 c κs = search needs
 
--- src/slot.rt:60:9
 low-byte-requires-7 : tie.Need-low-byte-requires-7
 low-byte-requires-7 c κs = search needs
 
--- src/slot.rt:61:9
 low-byte-requires-8 : tie.Need-low-byte-requires-8
 low-byte-requires-8 c κs = search needs
 
--- src/slot.rt:63:9
 low-byte-requires-9 : tie.Need-low-byte-requires-9
 low-byte-requires-9 c κs = search needs
 
--- src/slot.rt:64:9
 low-byte-requires-10 : tie.Need-low-byte-requires-10
 low-byte-requires-10 c κs = search needs
 
--- src/slot.rt:65:9
 low-byte-requires-11 : tie.Need-low-byte-requires-11
 low-byte-requires-11 c κs = search needs
 
--- src/slot.rt:66:9
 low-byte-requires-12 : tie.Need-low-byte-requires-12
 low-byte-requires-12 c κs = search needs
 
--- src/slot.rt:67:9
 low-byte-requires-13 : tie.Need-low-byte-requires-13
 low-byte-requires-13 c κs = search needs
 
--- src/slot.rt:68:9
 low-byte-requires-14 : tie.Need-low-byte-requires-14
 low-byte-requires-14 c κs = search needs
 
--- src/slot.rt:69:9
 low-byte-requires-15 : tie.Need-low-byte-requires-15
 low-byte-requires-15 c κs = search needs
 
--- src/slot.rt:70:9
 low-byte-requires-16 : tie.Need-low-byte-requires-16
 low-byte-requires-16 c κs = search needs
 
--- src/slot.rt:71:9
 low-byte-requires-17 : tie.Need-low-byte-requires-17
 low-byte-requires-17 c κs = search needs
 
--- src/slot.rt:72:9
 low-byte-requires-18 : tie.Need-low-byte-requires-18
 low-byte-requires-18 c κs = search needs
 
--- src/slot.rt:73:9
 low-byte-requires-19 : tie.Need-low-byte-requires-19
 low-byte-requires-19 c κs = search needs
 
--- src/slot.rt:74:9
 low-byte-requires-20 : tie.Need-low-byte-requires-20
 low-byte-requires-20 c κs = search needs
 
--- src/slot.rt:75:9
 low-byte-requires-21 : tie.Need-low-byte-requires-21
 low-byte-requires-21 c κs = search needs
 
--- src/slot.rt:76:9
 low-byte-requires-22 : tie.Need-low-byte-requires-22
 low-byte-requires-22 c κs = search needs
 
--- src/slot.rt:77:9
 low-byte-requires-23 : tie.Need-low-byte-requires-23
 low-byte-requires-23 c κs = search needs
 
--- src/slot.rt:78:9
 low-byte-requires-24 : tie.Need-low-byte-requires-24
 low-byte-requires-24 c κs = search needs
 
--- src/slot.rt:44:1
 returns : tie.Need-returns
 unfolding sessionBytes
 returns c =

@@ -12,19 +12,15 @@ use Rattle.record_bytes.proofs.slot.slot_at.Reads as reads
 use Rattle.record_bytes.proofs.slot.slot_at.Lts as lts
 use Rattle.record_bytes.proofs.slot.session_at.Reads as session-at-reads
 
--- src/slot.rt:120:8
 shared-slice-read-if1 : tie.Need-shared-slice-read-if1
 shared-slice-read-if1 c = search needs
 
--- src/slot.rt:122:36
 session-at-requires : tie.Need-session-at-requires
 session-at-requires c κs = search needs
 
--- src/slot.rt:121:9
 returns : tie.Need-returns
 returns c = ap (λ (x : SlotState). record { state = x }) (then _ _ _ _ (eq-eqb _ _ (c .before .if1 .taken)) (ap Open (c .session-at .ensures)))
 
--- src/slot.rt:116:1
 returns-2 : tie.Need-returns-2
 returns-2 c = ap (λ (x : SlotState). record { state = x }) (else _ _ _ _ (ne-eqb _ _ (c .if1 .left)) refl)
 

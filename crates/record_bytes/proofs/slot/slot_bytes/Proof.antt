@@ -7,23 +7,18 @@ use Rattle.record_bytes.proofs.slot.slot_bytes.Reads as reads
 use Rattle.record_bytes.proofs.slot.slot_bytes.Lts as lts
 use Rattle.record_bytes.proofs.slot.session_bytes.Reads as session-bytes-reads
 
--- src/slot.rt:88:28
 enum-told : tie.Need-enum-told
 enum-told c = search needs
 
--- src/slot.rt:89:25
 enum-known-state : tie.Need-enum-known-state
 enum-known-state c = search needs
 
--- src/slot.rt:89:31
 session-bytes-requires : tie.Need-session-bytes-requires
 session-bytes-requires c κs = search needs
 
--- src/slot.rt:83:1
 returns : tie.Need-returns
 returns c = search needs
 
--- src/slot.rt:83:1
 returns-2 : tie.Need-returns-2
 returns-2 c = c .session-bytes .ensures ∙ sym (ap stateBytes (c .before .before .state .given .1))
 

@@ -14,47 +14,36 @@ Inv-loop window₀ from to i₀ j₀ window i j = (j ≤ i) × (length window �
 abbrev μ-loop : tie.MeasureT-loop
 μ-loop window₀ from to i₀ j₀ window i j = to - i
 
--- src/input.rt:24:5
 loop-holds : tie.Need-loop-holds Inv-loop μ-loop
 loop-holds c = search needs
 
--- src/input.rt:26:13
 same-length : tie.Need-same-length Inv-loop μ-loop
 same-length c = search needs
 
--- src/input.rt:26:13
 returns : tie.Need-returns Inv-loop μ-loop
 returns c = search needs
 
--- src/input.rt:28:21
 slice-read-window : tie.Need-slice-read-window Inv-loop μ-loop
 slice-read-window c = search needs
 
--- src/input.rt:28:9
 slice-write-window : tie.Need-slice-write-window Inv-loop μ-loop
 slice-write-window c = search needs
 
--- src/input.rt:29:13
 add-i : tie.Need-add-i Inv-loop μ-loop
 add-i c = search needs
 
--- src/input.rt:30:13
 add-j : tie.Need-add-j Inv-loop μ-loop
 add-j c = search needs
 
--- src/input.rt:24:5
 loop-less : tie.Need-loop-less Inv-loop μ-loop
 loop-less c = search needs
 
--- src/input.rt:24:5
 loop-again : tie.Need-loop-again Inv-loop μ-loop
 loop-again c = search needs
 
--- src/input.rt:21:1
 same-length-2 : tie.Need-same-length-2 Inv-loop μ-loop
 same-length-2 c = search needs
 
--- src/input.rt:21:1
 returns-2 : tie.Need-returns-2 Inv-loop μ-loop
 returns-2 c = search needs
 

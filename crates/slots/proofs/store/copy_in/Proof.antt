@@ -9,39 +9,30 @@ use Rattle.slots.proofs.store.copy_in.Reads as reads
 use Rattle.slots.proofs.store.copy_in.Lts as lts
 use Rattle.slots.proofs.store.copy.Reads as copy-reads
 
--- src/store.rt:32:14
 slice-aggregate-copy : tie.Need-slice-aggregate-copy
 slice-aggregate-copy c = search needs
 
--- src/store.rt:32:9
 copy-requires : tie.Need-copy-requires
 copy-requires c κs = search needs
 
--- src/store.rt:33:24
 slice-aggregate-copy-2 : tie.Need-slice-aggregate-copy-2
 slice-aggregate-copy-2 c = search needs
 
--- src/store.rt:33:9
 copy-requires-2 : tie.Need-copy-requires-2
 copy-requires-2 c κs = search needs
 
--- src/store.rt:34:9
 same-length : tie.Need-same-length
 same-length c = search needs
 
--- src/store.rt:34:9
 returns : tie.Need-returns
 returns c = copied-twice _ (now (c .before .before .before .before .before .before .before .before .before .before .before .args .part)) (replicate 60 0) (c .before .before .before .before .before .before .copy .last .0) (drop 4 (now (c .before .before .before .before .before .before .before .before .before .before .before .args .bytes))) (c .before .before .before .before .before .before .before .before .before .before .before .args .at) (c .before .before .before .before .before .before .before .before .before .before .before .args .n) 60 (c .before .before .before .before .before .before .before .before .if1 .taken) (simp length-drop (omega arith)) (c .before .before .before .before .before .before .copy .ensures) (c .before .before .copy2 .ensures)
 
--- src/store.rt:36:5
 copy-requires-3 : tie.Need-copy-requires-3
 copy-requires-3 c κs = search needs
 
--- src/store.rt:26:1
 same-length-2 : tie.Need-same-length-2
 same-length-2 c = search needs
 
--- src/store.rt:26:1
 returns-2 : tie.Need-returns-2
 returns-2 c = search needs
 

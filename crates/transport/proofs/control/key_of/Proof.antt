@@ -7,11 +7,9 @@ use Rattle.transport.proofs.control.key_of.Reads as reads
 use Rattle.transport.proofs.control.key_of.Lts as lts
 use Rattle.transport.proofs.first.Reads as first-reads
 
--- src/control.rt:52:32
 first-requires : tie.Need-first-requires
 first-requires c κs = search needs
 
--- src/control.rt:44:1
 returns : tie.Need-returns
 returns c =
     ap (λ (b : ℕ). record { sa = c .before .before .before .before .args .route .sa; da = c .before .before .before .before .args .route .da; session = record { 0 = b / 16 % 16 } }) (c .first .ensures)

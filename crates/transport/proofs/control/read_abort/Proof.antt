@@ -11,20 +11,16 @@ use Rattle.transport.proofs.control.read_abort.Reads as reads
 use Rattle.transport.proofs.control.read_abort.Lts as lts
 use Rattle.frame.proofs.octet.low24_at.Reads as low24-at-reads
 
--- src/control.rt:89:8
 shared-slice-read-if1 : tie.Need-shared-slice-read-if1
 shared-slice-read-if1 c = search needs
 
--- src/control.rt:90:31
 low24-at-requires : tie.Need-low24-at-requires
 low24-at-requires c κs = search needs
 
--- src/control.rt:90:9
 returns : tie.Need-returns
 returns c =
     then (eqb (roleAt (c .before .before .before .before .args .bytes .now)) 0) _ _ _ (eq-eqb _ 0 (c .before .if1 .taken)) (ap Abort (c .low24-at .ensures .0))
 
--- src/control.rt:85:1
 returns-2 : tie.Need-returns-2
 returns-2 c =
     else (eqb (roleAt (c .before .before .before .args .bytes .now)) 0) _ _ _ (ne-eqb _ 0 (c .if1 .left)) refl

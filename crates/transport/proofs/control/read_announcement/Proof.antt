@@ -5,27 +5,21 @@ use Rattle.transport.proofs.control.read_announcement.Reads as reads
 use Rattle.transport.proofs.control.read_announcement.Lts as lts
 use Rattle.frame.proofs.octet.low24_at.Reads as low24-at-reads
 
--- src/control.rt:63:26
 low24-at-requires : tie.Need-low24-at-requires
 low24-at-requires c κs = search needs
 
--- src/control.rt:64:33
 low24-at-requires-2 : tie.Need-low24-at-requires-2
 low24-at-requires-2 c κs = search needs
 
--- src/control.rt:65:14
 shared-slice-read-t8 : tie.Need-shared-slice-read-t8
 shared-slice-read-t8 c = search needs
 
--- src/control.rt:66:20
 shared-slice-read-t10 : tie.Need-shared-slice-read-t10
 shared-slice-read-t10 c = search needs
 
--- src/control.rt:67:14
 low24-at-requires-3 : tie.Need-low24-at-requires-3
 low24-at-requires-3 c κs = search needs
 
--- src/control.rt:57:1
 returns : tie.Need-returns
 returns c = cc
 

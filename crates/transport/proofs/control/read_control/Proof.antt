@@ -40,48 +40,37 @@ with-other d n a b e f =
     (else (eqb n 2) _ _ _ (ne-eqb n 2 e)
     (else (eqb n 15 && eqb (roleAt d) 0) _ _ _ (sym (and-stop (eqb n 15) (eqb (roleAt d) 0) (ne-eqb n 15 f))) refl)))
 
--- src/control.rt:100:9
 returns : tie.Need-returns
 unfolding controlOf
 returns c = then _ _ _ _ (ap not (ne-eqb _ _ (c .if1 .taken))) refl
 
--- src/control.rt:102:11
 shared-slice-read-match : tie.Need-shared-slice-read-match
 shared-slice-read-match c = search needs
 
--- src/control.rt:103:32
 read-announcement-requires : tie.Need-read-announcement-requires
 read-announcement-requires c κs = search needs
 
--- src/control.rt:104:32
 read-announcement-requires-2 : tie.Need-read-announcement-requires-2
 read-announcement-requires-2 c κs = search needs
 
--- src/control.rt:105:36
 read-status-requires : tie.Need-read-status-requires
 read-status-requires c κs = search needs
 
--- src/control.rt:106:15
 read-abort-requires : tie.Need-read-abort-requires
 read-abort-requires c κs = search needs
 
--- src/control.rt:96:1
 returns-2 : tie.Need-returns-2
 returns-2 c = with-control _ 0 _ (c .before .before .before .if1 .left) (c .before .match .keys1) (ap Announce (c .read-announcement .ensures))
 
--- src/control.rt:96:1
 returns-3 : tie.Need-returns-3
 returns-3 c = with-control _ 4 _ (c .before .before .before .if1 .left) (c .before .match .keys2) (ap Announce (c .read-announcement2 .ensures))
 
--- src/control.rt:96:1
 returns-4 : tie.Need-returns-4
 returns-4 c = with-control _ 2 _ (c .before .before .before .if1 .left) (c .before .match .keys3) (ap EndOfMessage (c .read-status .ensures))
 
--- src/control.rt:96:1
 returns-5 : tie.Need-returns-5
 returns-5 c = with-control _ 15 _ (c .before .before .before .if1 .left) (c .before .match .keys4) (c .read-abort .ensures)
 
--- src/control.rt:96:1
 returns-6 : tie.Need-returns-6
 returns-6 c = with-control _ _ _ (c .before .before .if1 .left) refl (with-other (c .before .before .before .before .args .bytes .now) _ (c .match .rest .0 .0 .0 .1) (c .match .rest .0 .0 .1) (c .match .rest .0 .1) (c .match .rest .1))
 

@@ -19,31 +19,25 @@ other n a b c d =
     (else (eqb n 19) _ _ _ (ne-eqb n 19 c)
     (else (eqb n 22) _ _ _ (ne-eqb n 22 d) refl)))
 
--- src/reason.rt:11:11
 number-requires : tie.Need-number-requires
 number-requires c κs = search needs
 
--- src/reason.rt:8:1
 returns : tie.Need-returns
 unfolding reasonOf
 returns c = ap reasonOf (sym (c .match .keys1) ∙ c .before .number .ensures)
 
--- src/reason.rt:8:1
 returns-2 : tie.Need-returns-2
 unfolding reasonOf
 returns-2 c = ap reasonOf (sym (c .match .keys2) ∙ c .before .number .ensures)
 
--- src/reason.rt:8:1
 returns-3 : tie.Need-returns-3
 unfolding reasonOf
 returns-3 c = ap reasonOf (sym (c .match .keys3) ∙ c .before .number .ensures)
 
--- src/reason.rt:8:1
 returns-4 : tie.Need-returns-4
 unfolding reasonOf
 returns-4 c = ap reasonOf (sym (c .match .keys4) ∙ c .before .number .ensures)
 
--- src/reason.rt:8:1
 returns-5 : tie.Need-returns-5
 unfolding reasonOf
 returns-5 c = other _ (c .match .rest .0 .0 .0 .1) (c .match .rest .0 .0 .1) (c .match .rest .0 .1) (c .match .rest .1) ∙ ap reasonOf (c .before .number .ensures)

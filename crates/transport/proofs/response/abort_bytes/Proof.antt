@@ -9,35 +9,27 @@ use Rattle.transport.proofs.response.abort_bytes.Lts as lts
 use Rattle.frame.proofs.octet.low_byte.Reads as low-byte-reads
 use Rattle.frame.proofs.octet.wide.Reads as wide-reads
 
--- src/response.rt:106:28
 wide-requires : tie.Need-wide-requires
 wide-requires c κs = search needs
 
--- src/response.rt:106:23
 mul-low-byte : tie.Need-mul-low-byte
 mul-low-byte c = search needs
 
--- src/response.rt:106:18
 add-low-byte : tie.Need-add-low-byte
 add-low-byte c = search needs
 
--- src/response.rt:106:9
 low-byte-requires : tie.Need-low-byte-requires
 low-byte-requires c κs = search needs
 
--- src/response.rt:115:9
 low-byte-requires-2 : tie.Need-low-byte-requires-2
 low-byte-requires-2 c κs = search needs
 
--- src/response.rt:116:9
 low-byte-requires-3 : tie.Need-low-byte-requires-3
 low-byte-requires-3 c κs = search needs
 
--- src/response.rt:117:9
 low-byte-requires-4 : tie.Need-low-byte-requires-4
 low-byte-requires-4 c κs = search needs
 
--- src/response.rt:102:1
 returns : tie.Need-returns
 unfolding responseBytes
 returns c =

@@ -9,39 +9,30 @@ use Rattle.transport.proofs.response.abort_bytes.Reads as abort-bytes-r
 use Rattle.transport.proofs.response.cts_bytes.Reads as cts-bytes-reads
 use Rattle.transport.proofs.response.eoma_bytes.Reads as eoma-bytes-reads
 
--- src/response.rt:126:23
 enum-known-f : tie.Need-enum-known-f
 enum-known-f c = search needs
 
--- src/response.rt:126:29
 cts-bytes-requires : tie.Need-cts-bytes-requires
 cts-bytes-requires c κs = search needs
 
--- src/response.rt:127:24
 enum-known-f-2 : tie.Need-enum-known-f-2
 enum-known-f-2 c = search needs
 
--- src/response.rt:127:30
 eoma-bytes-requires : tie.Need-eoma-bytes-requires
 eoma-bytes-requires c κs = search needs
 
--- src/response.rt:128:25
 enum-known-f-3 : tie.Need-enum-known-f-3
 enum-known-f-3 c = search needs
 
--- src/response.rt:128:31
 abort-bytes-requires : tie.Need-abort-bytes-requires
 abort-bytes-requires c κs = search needs
 
--- src/response.rt:122:1
 returns : tie.Need-returns
 returns c = c .cts-bytes .ensures ∙ ap responseBytes (sym (c .before .before .f .given .1))
 
--- src/response.rt:122:1
 returns-2 : tie.Need-returns-2
 returns-2 c = c .eoma-bytes .ensures ∙ ap responseBytes (sym (c .before .before .f2 .given .1))
 
--- src/response.rt:122:1
 returns-3 : tie.Need-returns-3
 returns-3 c = c .abort-bytes .ensures ∙ ap responseBytes (sym (c .before .before .f3 .given .1))
 

@@ -9,47 +9,36 @@ use Rattle.transport.proofs.response.cts_bytes.Lts as lts
 use Rattle.frame.proofs.octet.low_byte.Reads as low-byte-reads
 use Rattle.frame.proofs.octet.wide.Reads as wide-reads
 
--- src/response.rt:68:27
 wide-requires : tie.Need-wide-requires
 wide-requires c κs = search needs
 
--- src/response.rt:68:22
 mul-low-byte : tie.Need-mul-low-byte
 mul-low-byte c = search needs
 
--- src/response.rt:68:18
 add-low-byte : tie.Need-add-low-byte
 add-low-byte c = search needs
 
--- src/response.rt:68:9
 low-byte-requires : tie.Need-low-byte-requires
 low-byte-requires c κs = search needs
 
--- src/response.rt:72:9
 low-byte-requires-2 : tie.Need-low-byte-requires-2
 low-byte-requires-2 c κs = search needs
 
--- src/response.rt:73:9
 low-byte-requires-3 : tie.Need-low-byte-requires-3
 low-byte-requires-3 c κs = search needs
 
--- src/response.rt:74:9
 low-byte-requires-4 : tie.Need-low-byte-requires-4
 low-byte-requires-4 c κs = search needs
 
--- src/response.rt:77:9
 low-byte-requires-5 : tie.Need-low-byte-requires-5
 low-byte-requires-5 c κs = search needs
 
--- src/response.rt:78:9
 low-byte-requires-6 : tie.Need-low-byte-requires-6
 low-byte-requires-6 c κs = search needs
 
--- src/response.rt:79:9
 low-byte-requires-7 : tie.Need-low-byte-requires-7
 low-byte-requires-7 c κs = search needs
 
--- src/response.rt:64:1
 returns : tie.Need-returns
 unfolding responseBytes
 returns c =

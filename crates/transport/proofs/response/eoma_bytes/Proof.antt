@@ -9,59 +9,45 @@ use Rattle.transport.proofs.response.eoma_bytes.Lts as lts
 use Rattle.frame.proofs.octet.low_byte.Reads as low-byte-reads
 use Rattle.frame.proofs.octet.wide.Reads as wide-reads
 
--- src/response.rt:87:27
 wide-requires : tie.Need-wide-requires
 wide-requires c κs = search needs
 
--- src/response.rt:87:22
 mul-low-byte : tie.Need-mul-low-byte
 mul-low-byte c = search needs
 
--- src/response.rt:87:18
 add-low-byte : tie.Need-add-low-byte
 add-low-byte c = search needs
 
--- src/response.rt:87:9
 low-byte-requires : tie.Need-low-byte-requires
 low-byte-requires c κs = search needs
 
--- src/response.rt:88:9
 low-byte-requires-2 : tie.Need-low-byte-requires-2
 low-byte-requires-2 c κs = search needs
 
--- src/response.rt:89:9
 low-byte-requires-3 : tie.Need-low-byte-requires-3
 low-byte-requires-3 c κs = search needs
 
--- src/response.rt:90:9
 low-byte-requires-4 : tie.Need-low-byte-requires-4
 low-byte-requires-4 c κs = search needs
 
--- src/response.rt:91:9
 low-byte-requires-5 : tie.Need-low-byte-requires-5
 low-byte-requires-5 c κs = search needs
 
--- src/response.rt:92:9
 low-byte-requires-6 : tie.Need-low-byte-requires-6
 low-byte-requires-6 c κs = search needs
 
--- src/response.rt:93:9
 low-byte-requires-7 : tie.Need-low-byte-requires-7
 low-byte-requires-7 c κs = search needs
 
--- src/response.rt:96:9
 low-byte-requires-8 : tie.Need-low-byte-requires-8
 low-byte-requires-8 c κs = search needs
 
--- src/response.rt:97:9
 low-byte-requires-9 : tie.Need-low-byte-requires-9
 low-byte-requires-9 c κs = search needs
 
--- src/response.rt:98:9
 low-byte-requires-10 : tie.Need-low-byte-requires-10
 low-byte-requires-10 c κs = search needs
 
--- src/response.rt:83:1
 returns : tie.Need-returns
 unfolding responseBytes
 returns c =

@@ -7,39 +7,30 @@ use Rattle.transport.proofs.response.identifier.Reads as reads
 use Rattle.transport.proofs.response.identifier.Lts as lts
 use Rattle.transport.proofs.response.reply_id.Reads as reply-id-reads
 
--- src/response.rt:58:23
 enum-known-f : tie.Need-enum-known-f
 enum-known-f c = search needs
 
--- src/response.rt:58:29
 reply-id-requires : tie.Need-reply-id-requires
 reply-id-requires c κs = search needs
 
--- src/response.rt:59:24
 enum-known-f-2 : tie.Need-enum-known-f-2
 enum-known-f-2 c = search needs
 
--- src/response.rt:59:30
 reply-id-requires-2 : tie.Need-reply-id-requires-2
 reply-id-requires-2 c κs = search needs
 
--- src/response.rt:60:25
 enum-known-f-3 : tie.Need-enum-known-f-3
 enum-known-f-3 c = search needs
 
--- src/response.rt:60:31
 reply-id-requires-3 : tie.Need-reply-id-requires-3
 reply-id-requires-3 c κs = search needs
 
--- src/response.rt:54:1
 returns : tie.Need-returns
 returns c = c .reply-id .ensures ∙ ap responseId (sym (c .before .before .f .given .1))
 
--- src/response.rt:54:1
 returns-2 : tie.Need-returns-2
 returns-2 c = c .reply-id2 .ensures ∙ ap responseId (sym (c .before .before .f2 .given .1))
 
--- src/response.rt:54:1
 returns-3 : tie.Need-returns-3
 returns-3 c = c .reply-id3 .ensures ∙ ap responseId (sym (c .before .before .f3 .given .1))
 

@@ -8,23 +8,18 @@ use Rattle.transport.proofs.response.read_abort.Reads as reads
 use Rattle.transport.proofs.response.read_abort.Lts as lts
 use Rattle.frame.proofs.octet.low24_at.Reads as low24-at-reads
 
--- src/response.rt:179:8
 shared-slice-read-if1 : tie.Need-shared-slice-read-if1
 shared-slice-read-if1 c = search needs
 
--- src/response.rt:182:21
 shared-slice-read-t8 : tie.Need-shared-slice-read-t8
 shared-slice-read-t8 c = search needs
 
--- src/response.rt:183:18
 low24-at-requires : tie.Need-low24-at-requires
 low24-at-requires c κs = search needs
 
--- src/response.rt:180:9
 returns : tie.Need-returns
 returns c = then _ _ _ _ (eq-eqb _ _ (c .before .before .if1 .taken)) (cc)
 
--- src/response.rt:175:1
 returns-2 : tie.Need-returns-2
 returns-2 c = else _ _ _ _ (ne-eqb _ _ (c .if1 .left)) refl
 

@@ -5,19 +5,15 @@ use Rattle.transport.proofs.response.read_cts.Reads as reads
 use Rattle.transport.proofs.response.read_cts.Lts as lts
 use Rattle.frame.proofs.octet.low24_at.Reads as low24-at-reads
 
--- src/response.rt:157:29
 low24-at-requires : tie.Need-low24-at-requires
 low24-at-requires c κs = search needs
 
--- src/response.rt:158:16
 shared-slice-read-t6 : tie.Need-shared-slice-read-t6
 shared-slice-read-t6 c = search needs
 
--- src/response.rt:159:14
 low24-at-requires-2 : tie.Need-low24-at-requires-2
 low24-at-requires-2 c κs = search needs
 
--- src/response.rt:151:1
 returns : tie.Need-returns
 returns c = cc
 

@@ -5,19 +5,15 @@ use Rattle.transport.proofs.response.read_eoma.Reads as reads
 use Rattle.transport.proofs.response.read_eoma.Lts as lts
 use Rattle.frame.proofs.octet.low24_at.Reads as low24-at-reads
 
--- src/response.rt:169:26
 low24-at-requires : tie.Need-low24-at-requires
 low24-at-requires c κs = search needs
 
--- src/response.rt:170:33
 low24-at-requires-2 : tie.Need-low24-at-requires-2
 low24-at-requires-2 c κs = search needs
 
--- src/response.rt:171:14
 low24-at-requires-3 : tie.Need-low24-at-requires-3
 low24-at-requires-3 c κs = search needs
 
--- src/response.rt:163:1
 returns : tie.Need-returns
 returns c = cc
 

@@ -36,44 +36,34 @@ with-other k d n a b e =
     (else (eqb n 3) _ _ _ (ne-eqb n 3 b)
     (else (eqb n 15) _ _ _ (ne-eqb n 15 e) refl))
 
--- src/response.rt:194:9
 returns : tie.Need-returns
 unfolding responseOf
 returns c = then _ _ _ _ (ap not (ne-eqb _ _ (c .if1 .taken))) refl
 
--- src/response.rt:196:9
 session-key-requires : tie.Need-session-key-requires
 session-key-requires c κs = search needs
 
--- src/response.rt:197:11
 shared-slice-read-match : tie.Need-shared-slice-read-match
 shared-slice-read-match c = search needs
 
--- src/response.rt:198:51
 read-cts-requires : tie.Need-read-cts-requires
 read-cts-requires c κs = search needs
 
--- src/response.rt:199:52
 read-eoma-requires : tie.Need-read-eoma-requires
 read-eoma-requires c κs = search needs
 
--- src/response.rt:200:15
 read-abort-requires : tie.Need-read-abort-requires
 read-abort-requires c κs = search needs
 
--- src/response.rt:190:1
 returns-2 : tie.Need-returns-2
 returns-2 c = with-control _ _ _ 1 _ (c .before .before .before .before .if1 .left) (c .before .before .before .session-key .ensures) (c .before .match .keys1) (ap (λ f. Response (Cts f)) (c .read-cts .ensures))
 
--- src/response.rt:190:1
 returns-3 : tie.Need-returns-3
 returns-3 c = with-control _ _ _ 3 _ (c .before .before .before .before .if1 .left) (c .before .before .before .session-key .ensures) (c .before .match .keys2) (ap (λ f. Response (Eoma f)) (c .read-eoma .ensures))
 
--- src/response.rt:190:1
 returns-4 : tie.Need-returns-4
 returns-4 c = with-control _ _ _ 15 _ (c .before .before .before .before .if1 .left) (c .before .before .before .session-key .ensures) (c .before .match .keys3) (c .read-abort .ensures)
 
--- src/response.rt:190:1
 returns-5 : tie.Need-returns-5
 returns-5 c = with-control _ _ _ _ _ (c .before .before .before .if1 .left) (c .before .before .session-key .ensures) refl (with-other _ (c .before .before .before .before .before .args .frame .now) _ (c .match .rest .0 .0 .1) (c .match .rest .0 .1) (c .match .rest .1))
 

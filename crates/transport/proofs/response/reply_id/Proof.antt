@@ -7,27 +7,21 @@ use Rattle.transport.proofs.response.reply_id.Reads as reads
 use Rattle.transport.proofs.response.reply_id.Lts as lts
 use Rattle.frame.proofs.octet.wide.Reads as wide-reads
 
--- src/response.rt:50:19
 wide-requires : tie.Need-wide-requires
 wide-requires c κs = search needs
 
--- src/response.rt:50:13
 mul-result : tie.Need-mul-result
 mul-result c = search needs
 
--- src/response.rt:50:5
 add-result : tie.Need-add-result
 add-result c = search needs
 
--- src/response.rt:50:36
 wide-requires-2 : tie.Need-wide-requires-2
 wide-requires-2 c κs = search needs
 
--- src/response.rt:50:5
 add-result-2 : tie.Need-add-result-2
 add-result-2 c = search needs
 
--- src/response.rt:47:1
 returns : tie.Need-returns
 unfolding replyId
 returns c = omega arith

@@ -10,24 +10,19 @@ use Rattle.transport.proofs.segment.read_segment.Reads as reads
 use Rattle.transport.proofs.segment.read_segment.Lts as lts
 use Rattle.frame.proofs.octet.low24_at.Reads as low24-at-reads
 
--- src/segment.rt:26:9
 returns : tie.Need-returns
 unfolding dataFrameOf
 returns c = then _ _ _ _ (lt-ltb _ _ (c .if1 .taken)) refl
 
--- src/segment.rt:29:17
 shared-slice-read-t6 : tie.Need-shared-slice-read-t6
 shared-slice-read-t6 c = search needs
 
--- src/segment.rt:30:31
 low24-at-requires : tie.Need-low24-at-requires
 low24-at-requires c κs = search needs
 
--- src/segment.rt:31:15
 sub-t10 : tie.Need-sub-t10
 sub-t10 c = search needs
 
--- src/segment.rt:22:1
 returns-2 : tie.Need-returns-2
 unfolding dataFrameOf
 returns-2 c = else _ _ _ _ (le-ltb _ _ (c .before .before .if1 .left)) (ap Segment (cc))

@@ -45,63 +45,48 @@ module _ (d : List ℕ) (at : ℕ) (second : getD d (at + 1) 0 < 256) (third : g
     by-data : leb (at + 4 + w) (length d) ≡ isGroup (stepAt d at)
     by-data = by-test (leb (at + 4 + w) (length d)) refl
 
--- src/place.rt:14:17
 add-start : tie.Need-add-start
 add-start c = search needs
 
--- src/place.rt:16:9
 returns : tie.Need-returns
 returns c = is-none (c .before .before .args .frame .now) (c .before .before .args .at) (λ p. let w = p .whole in omega arith)
 
--- src/place.rt:18:8
 shared-slice-read-if2 : tie.Need-shared-slice-read-if2
 shared-slice-read-if2 c = search needs
 
--- src/place.rt:19:9
 returns-2 : tie.Need-returns-2
 returns-2 c = is-none (c .before .before .before .before .args .frame .now) (c .before .before .before .before .args .at) (λ p. let s = p .service in let t = p .trailer in c .if2 .taken (omega arith))
 
--- src/place.rt:21:14
 add-if3 : tie.Need-add-if3
 add-if3 c = search needs
 
--- src/place.rt:21:8
 shared-slice-read-if3 : tie.Need-shared-slice-read-if3
 shared-slice-read-if3 c = search needs
 
--- src/place.rt:22:18
 add-if4 : tie.Need-add-if4
 add-if4 c = search needs
 
--- src/place.rt:22:12
 shared-slice-read-if4 : tie.Need-shared-slice-read-if4
 shared-slice-read-if4 c = search needs
 
--- src/place.rt:23:13
 returns-3 : tie.Need-returns-3
 returns-3 c = wrong (c .before .before .before .before .before .before .before .before .args .frame .now) (c .before .before .before .before .before .before .before .before .args .at) (omega (arith, c .before .before .before .shared-slice-known3 .given (c .before .before .before .before .before .before .before .before .args .at + 1))) (omega (arith, c .before .before .before .shared-slice-known3 .given (c .before .before .before .before .before .before .before .before .args .at + 2))) (sym (or-next _ _ _ (lt-leb _ _ (c .before .before .if3 .taken)) (sym (ne-eqb _ _ (c .if4 .taken)))))
 
--- src/place.rt:26:24
 add-wide : tie.Need-add-wide
 add-wide c = search needs
 
--- src/place.rt:26:18
 shared-slice-read-wide : tie.Need-shared-slice-read-wide
 shared-slice-read-wide c = search needs
 
--- src/place.rt:26:13
 wide-requires : tie.Need-wide-requires
 wide-requires c κs = search needs
 
--- src/place.rt:26:13
 cast-result : tie.Need-cast-result
 cast-result c = search needs
 
--- src/place.rt:26:5
 add-result : tie.Need-add-result
 add-result c = search needs
 
--- src/place.rt:10:1
 returns-4 : tie.Need-returns-4
 returns-4 c = by-data (c .before .before .before .before .before .before .before .before .args .frame .now) (c .before .before .before .before .before .before .before .before .args .at) (omega (arith, c .before .before .before .shared-slice-known3 .given (c .before .before .before .before .before .before .before .before .args .at + 1))) (omega (arith, c .before .before .before .shared-slice-known3 .given (c .before .before .before .before .before .before .before .before .args .at + 2))) (c .wide .result) (c .wide .ensures .0) (c .before .before .before .before .before .before .if1 .left) (c .before .before .before .before .if2 .left) (⊎-elim (λ w. or-last (leb 240 (getD (c .before .before .before .before .before .before .before .before .args .frame .now) (c .before .before .before .before .before .before .before .before .args .at + 1) 0)) _ (eq-eqb _ _ (w .2 .left))) (λ w. sym (or-stop _ _ (le-leb _ _ (w .left)))) (c .before .before .if3 .came))
 

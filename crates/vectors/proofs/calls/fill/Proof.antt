@@ -15,51 +15,39 @@ Inv-loop bytes₀ sa n j₀ value₀ bytes j value = (value ≤ 3000) × (length
 abbrev μ-loop : tie.MeasureT-loop
 μ-loop bytes₀ sa n j₀ value₀ bytes j value = length bytes - j
 
--- src/calls.rt:89:21
 mul-value : tie.Need-mul-value Inv-loop μ-loop
 mul-value c = search needs
 
--- src/calls.rt:89:43
 mul-value-2 : tie.Need-mul-value-2 Inv-loop μ-loop
 mul-value-2 c = search needs
 
--- src/calls.rt:89:21
 add-value : tie.Need-add-value Inv-loop μ-loop
 add-value c = search needs
 
--- src/calls.rt:90:5
 loop-holds : tie.Need-loop-holds Inv-loop μ-loop
 loop-holds c = search needs
 
--- src/calls.rt:91:20
 low-byte-requires : tie.Need-low-byte-requires Inv-loop μ-loop
 low-byte-requires c κs = search needs
 
--- src/calls.rt:91:9
 slice-write-bytes : tie.Need-slice-write-bytes Inv-loop μ-loop
 slice-write-bytes c = search needs
 
--- src/calls.rt:92:17
 add-value-2 : tie.Need-add-value-2 Inv-loop μ-loop
 add-value-2 c = search needs
 
--- src/calls.rt:93:13
 add-j : tie.Need-add-j Inv-loop μ-loop
 add-j c = search needs
 
--- src/calls.rt:90:5
 loop-less : tie.Need-loop-less Inv-loop μ-loop
 loop-less c = simp length-set (omega arith)
 
--- src/calls.rt:90:5
 loop-again : tie.Need-loop-again Inv-loop μ-loop
 loop-again c = search needs
 
--- src/calls.rt:87:1
 same-length : tie.Need-same-length Inv-loop μ-loop
 same-length c = search needs
 
--- src/calls.rt:87:1
 returns : tie.Need-returns Inv-loop μ-loop
 returns c = search needs
 

@@ -17,39 +17,30 @@ Inv-loop t store₀ next₀ n₀ store next n = (n ≤ t .segments) × (length s
 abbrev μ-loop : tie.MeasureT-loop
 μ-loop t store₀ next₀ n₀ store next n = t .segments - n
 
--- src/calls.rt:109:9
 announce-requires : tie.Need-announce-requires Inv-loop μ-loop
 announce-requires c κs = search needs
 
--- src/calls.rt:111:5
 loop-holds : tie.Need-loop-holds Inv-loop μ-loop
 loop-holds c = search needs
 
--- src/calls.rt:112:13
 add-n : tie.Need-add-n Inv-loop μ-loop
 add-n c = search needs
 
--- src/calls.rt:113:9
 send-segment-requires : tie.Need-send-segment-requires Inv-loop μ-loop
 send-segment-requires c κs = search needs
 
--- src/calls.rt:111:5
 loop-less : tie.Need-loop-less Inv-loop μ-loop
 loop-less c = search needs
 
--- src/calls.rt:111:5
 loop-again : tie.Need-loop-again Inv-loop μ-loop
 loop-again c = search needs
 
--- src/calls.rt:115:5
 finish-requires : tie.Need-finish-requires Inv-loop μ-loop
 finish-requires c κs = search needs
 
--- src/calls.rt:108:1
 same-length : tie.Need-same-length Inv-loop μ-loop
 same-length c = search needs
 
--- src/calls.rt:108:1
 returns : tie.Need-returns Inv-loop μ-loop
 returns c = search needs
 

@@ -1,0 +1,71 @@
+// The calls that a program in C links: numbers and lent bytes go in and out (include/dwaebinam.h).
+ghost use mathlib.Core.Path.{_≡_};
+ghost use Rattle.frame.specs.Lengths.{leastLength};
+ghost use Rattle.dwaebinam.specs.Calls.{leastOr, openingNumber, openedIn, framedIn};
+use answer_bytes::answer::ANSWER_BYTES;
+use answer_bytes::answer::write_answer;
+use frame::Address;
+use frame::length::Least;
+use frame::length::least_length;
+use in_place::call::take_frame;
+use receiver::Receiver;
+use receiver::answer::number;
+use record_bytes::layout::RECORD_BYTES;
+use record_bytes::layout::write_record;
+use slots::bounds::opening_ok;
+
+// The least length of a frame that holds need bytes; 255 for more than 64.
+#[no_mangle]
+pub extern "C" fn dwb_least_length(need: usize) -> usize
+    ensures { λ r. ⌜ r ≡ leastOr (leastLength need) ⌝ }
+{
+    match least_length(need) {
+        Least::Length(n) => n,
+        Least::Nothing => 255,
+    }
+}
+
+// 0, or 23 for opening values out of bounds.
+fn opening_number(own: Address, limit: u32) -> u8
+    ensures { λ r. ⌜ r ≡ openingNumber own limit ⌝ }
+{
+    if opening_ok(own, limit) {
+        return 0;
+    }
+    23
+}
+
+// Opens a receiver in a buffer of RECORD_BYTES. An opening that is refused with 23 gives a record that every call refuses; a buffer of
+// another length stays as it was.
+#[no_mangle]
+pub extern "C" fn dwb_open(buffer: &mut [u8], own: u8, limit: u32, reading: u32) -> u8
+    ensures { λ x. ⌜ (x, now (buffer .exit)) ≡ openedIn own limit reading (now (buffer .entry)) ⌝ }
+{
+    if buffer.len() != RECORD_BYTES {
+        return 23;
+    }
+    let opened = Receiver::open(Address(own), limit, reading);
+    let receiver = opened.receiver;
+    write_record(receiver, buffer);
+    opening_number(Address(own), limit)
+}
+
+// Takes one frame: the answer's number, with the answer written, and the record and the store as the answer says. 23 with all as it was
+// where the answer's buffer has another length.
+#[no_mangle]
+pub extern "C" fn dwb_frame(
+    buffer: &mut [u8],
+    id: u32,
+    bytes: &[u8],
+    store: &mut [u8],
+    answer: &mut [u8],
+) -> u8
+    ensures { λ x. ⌜ (x, (now (buffer .exit), (now (store .exit), now (answer .exit)))) ≡ framedIn (now (buffer .entry)) id (now (bytes .entry)) (now (store .entry)) (now (answer .entry)) ⌝ }
+{
+    if answer.len() != ANSWER_BYTES {
+        return 23;
+    }
+    let a = take_frame(buffer, id, bytes, store);
+    write_answer(a, answer);
+    number(a)
+}
