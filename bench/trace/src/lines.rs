@@ -1,6 +1,6 @@
 //! The lines of 01, "Program".
 
-use crate::receiver::{Answer, Ending, Sent};
+use plain::receiver::{Answer, Key, Sent};
 use std::io::Write;
 
 fn decimal(out: &mut Vec<u8>, value: u64) {
@@ -27,63 +27,78 @@ fn line(out: &mut Vec<u8>, word: &str, numbers: &[u32]) {
     out.push(b'\n');
 }
 
-pub fn answer(out: &mut Vec<u8>, answer: &Answer) {
+/// The source address and the session number.
+fn names(key: Key) -> (u32, u32) {
+    (key.sa().into(), key.number().into())
+}
+
+pub fn answer(out: &mut Vec<u8>, id: u32, answer: &Answer) {
+    let Answer::Groups(groups) = answer else {
+        return session(out, answer);
+    };
+    for group in groups.clone() {
+        let length = group.data.len() as u32;
+        line(out, "pg", &[id & 255, id >> 8 & 255, group.pgn, length]);
+    }
+}
+
+/// The line of an answer that is not a frame's groups.
+pub fn session(out: &mut Vec<u8>, answer: &Answer) {
     match answer {
-        Answer::Groups(sa, da, groups) => {
-            for group in groups.clone() {
-                let length = group.data.len() as u32;
-                line(out, "pg", &[(*sa).into(), (*da).into(), group.pgn, length]);
-            }
+        Answer::Groups(_) => {}
+        Answer::Opened(key) => {
+            let (sa, number) = names(*key);
+            line(out, "open", &[sa, number]);
         }
-        Answer::Open(sa, number) => line(out, "open", &[(*sa).into(), (*number).into()]),
-        Answer::Took(sa, number, segment) => {
-            line(out, "took", &[(*sa).into(), (*number).into(), *segment]);
+        Answer::Taken { key, segment } => {
+            let (sa, number) = names(*key);
+            line(out, "took", &[sa, number, *segment]);
         }
-        Answer::Cts(sa, number, next, count, _) => {
-            line(
-                out,
-                "send cts",
-                &[(*sa).into(), (*number).into(), *next, *count],
-            );
+        Answer::Grant {
+            key, next, count, ..
+        } => {
+            let (sa, number) = names(*key);
+            line(out, "send cts", &[sa, number, *next, (*count).into()]);
         }
-        Answer::Abort(sa, number, refusal, _) => {
-            line(
-                out,
-                "send abort",
-                &[(*sa).into(), (*number).into(), *refusal],
-            );
-        }
-        Answer::Message(s, bytes, sent) => {
+        Answer::HandedOver {
+            key,
+            pgn,
+            message,
+            sent,
+            ..
+        } => {
+            let (sa, number) = names(*key);
             if sent.is_some() {
-                line(out, "send eoma", &[s.sa.into(), s.number.into()]);
+                line(out, "send eoma", &[sa, number]);
             }
-            let length = bytes.len() as u32;
-            line(
-                out,
-                "msg",
-                &[s.sa.into(), s.da.into(), s.number.into(), s.pgn, length],
-            );
+            let length = message.len() as u32;
+            line(out, "msg", &[sa, key.da().into(), number, *pgn, length]);
             out.pop();
-            for &byte in *bytes {
+            for &byte in *message {
                 out.push(b' ');
                 decimal(out, byte.into());
             }
             out.push(b'\n');
         }
-        Answer::Ended(sa, number, refusal) => {
-            line(out, "ended", &[(*sa).into(), (*number).into(), *refusal]);
+        Answer::Aborted(key) => {
+            let (sa, number) = names(*key);
+            line(out, "ended", &[sa, number, 0]);
         }
-        Answer::Refused(refusal) => line(out, "refused", &[*refusal]),
+        Answer::Ended {
+            refusal,
+            key,
+            sent: None,
+            ..
+        } => {
+            let (sa, number) = names(*key);
+            line(out, "ended", &[sa, number, (*refusal).into()]);
+        }
+        Answer::Ended { refusal, key, .. } | Answer::RefusedRts { refusal, key, .. } => {
+            let (sa, number) = names(*key);
+            line(out, "send abort", &[sa, number, (*refusal).into()]);
+        }
+        Answer::Refused(refusal) => line(out, "refused", &[(*refusal).into()]),
     }
-}
-
-pub fn ending(out: &mut Vec<u8>, e: &Ending) {
-    let word = if e.sent.is_some() {
-        "send abort"
-    } else {
-        "ended"
-    };
-    line(out, word, &[e.sa.into(), e.number.into(), e.refusal]);
 }
 
 pub fn end(out: &mut Vec<u8>, records: u64) {

@@ -1,14 +1,14 @@
-//! The receiver of 01 in plain Rust, to measure against and to compare lines with.
+//! The trace program of 01 over the receiver in plain Rust (bench/plain), to measure against and to compare lines with.
 //! It was written from 01 and shares nothing with crates/.
 //!
 //!     baseline < TRACE          the lines of 01, "Program"
 //!     baseline --sent < TRACE   each control frame sent: record (from 0), identifier and bytes in hex
 
 mod lines;
-mod receiver;
 mod records;
 
-use receiver::Receiver;
+use plain::receiver::Receiver;
+use plain::{SLOTS, SLOT_BYTES};
 use records::{Next, Records};
 use std::io::{self, Write};
 
@@ -17,27 +17,29 @@ const FULL: usize = 1 << 16;
 fn main() -> io::Result<()> {
     let sent_only = std::env::args().any(|a| a == "--sent");
     let mut records = Records::new(io::stdin().lock());
-    let mut receiver = Receiver::open(33, 1250, 0);
+    // It trusts its record.
+    let mut receiver = Receiver::<false>::open(33, 1250, 0);
+    let mut store = vec![0; SLOTS * SLOT_BYTES];
     let mut out = Vec::with_capacity(2 * FULL);
     let mut stdout = io::stdout().lock();
     let mut count: u64 = 0;
     loop {
         match records.next()? {
             Next::Reading(now) => {
-                receiver.reading(now, |ending| {
+                receiver.reading(now, |ended| {
                     if sent_only {
-                        lines::sent(&mut out, count, ending.sent.as_ref());
+                        lines::sent(&mut out, count, ended.sent());
                     } else {
-                        lines::ending(&mut out, &ending);
+                        lines::session(&mut out, &ended);
                     }
                 });
             }
             Next::Frame(id, bytes) => {
-                let answer = receiver.frame(id, bytes);
+                let answer = receiver.frame(id, bytes, &mut store);
                 if sent_only {
                     lines::sent(&mut out, count, answer.sent());
                 } else {
-                    lines::answer(&mut out, &answer);
+                    lines::answer(&mut out, id, &answer);
                 }
             }
             Next::End => {

@@ -8,8 +8,8 @@ use std::fmt::Write;
 use std::fs;
 use std::path::{Path, PathBuf};
 
-/// Where traces stand, from the root of the repository. What a trace sends stands beside it or in the first of them.
-const FOLDERS: [&str; 3] = ["tests/rust/samples", "tests/samples", "traces"];
+/// Where traces stand, from the root of the repository.
+const FOLDERS: [&str; 2] = ["tests/samples", "traces"];
 /// How many samples have a list of sent frames.
 const WITH_SENT: usize = 24;
 
@@ -176,8 +176,9 @@ pub fn run(pair: &mut Pair, random: &mut Random) -> Verdict<Met> {
         same_text(&trace.with_extension("lines"), &lines)?;
         met.traces += 1;
         met.lines += lines.lines().count() as u64;
-        if let Some(path) = sent_beside(&trace) {
-            same_text(&path, &sent)?;
+        let listed = trace.with_extension("sent");
+        if listed.exists() {
+            same_text(&listed, &sent)?;
             met.sent += frames_sent;
             met.with_sent += 1;
         }
@@ -186,12 +187,6 @@ pub fn run(pair: &mut Pair, random: &mut Random) -> Verdict<Met> {
         format!("{} samples have a list of sent frames, not {WITH_SENT}", met.with_sent)
     })?;
     Ok(met)
-}
-
-fn sent_beside(trace: &Path) -> Option<PathBuf> {
-    let beside = trace.with_extension("sent");
-    let apart = root().join(FOLDERS[0]).join(beside.file_name()?);
-    [beside, apart].into_iter().find(|path| path.exists())
 }
 
 fn same_text(path: &Path, ours: &str) -> Verdict<()> {

@@ -1,6 +1,6 @@
-//! The receiver in plain Rust: a typed record behind `&mut self`, eight slots over a lent store.
+//! The receiver: a typed record behind `&mut self`, eight slots over a lent store.
 
-use super::{is_can_fd_length, low_byte_is_wrong, Groups, Refusal, SLOTS, SLOT_BYTES};
+use crate::{is_can_fd_length, low_byte_is_wrong, Groups, Refusal, SLOTS, SLOT_BYTES};
 
 pub const GRANT: u32 = 16;
 pub const SEGMENT_BYTES: u32 = 60;
@@ -86,6 +86,16 @@ pub enum Answer<'a> {
         sent: Sent,
     },
     Refused(Refusal),
+}
+
+impl Answer<'_> {
+    pub fn sent(&self) -> Option<&Sent> {
+        match self {
+            Answer::Grant { sent, .. } | Answer::RefusedRts { sent, .. } => Some(sent),
+            Answer::HandedOver { sent, .. } | Answer::Ended { sent, .. } => sent.as_ref(),
+            _ => None,
+        }
+    }
 }
 
 fn number24(bytes: &[u8; 12], at: usize) -> u32 {
@@ -394,5 +404,18 @@ impl<const CHECKED: bool> Receiver<CHECKED> {
             }
             _ => Answer::Refused(16),
         }
+    }
+}
+
+/// Only the trace program takes readings, and its receiver trusts its record.
+impl Receiver<false> {
+    /// Takes a reading of the clock, with an answer for each session that was silent too long.
+    pub fn reading(&mut self, now: u32, mut each: impl FnMut(Answer)) {
+        for slot in 0..SLOTS {
+            if matches!(&self.slots[slot], Some(s) if now.wrapping_sub(s.mark) >= self.limit) {
+                each(self.fail(slot, 22));
+            }
+        }
+        self.last = now;
     }
 }

@@ -1,8 +1,8 @@
 //! Both sides give equal answers: an answer and a record of the plain receiver as include/dwaebinam.h lays them out.
 
-use crate::ours::{Ours, ANSWER_BYTES, RECORD_BYTES, STORE_BYTES};
 use crate::frames::{Frame, LIMIT, OWN};
-use crate::plain::receiver::{Answer, Key, Receiver, Sent};
+use crate::ours::{Ours, ANSWER_BYTES, RECORD_BYTES, STORE_BYTES};
+use plain::receiver::{Answer, Key, Receiver, Sent};
 
 fn put(out: &mut [u8], at: usize, value: u32) {
     out[at..at + 4].copy_from_slice(&value.to_le_bytes());
@@ -154,7 +154,7 @@ pub fn compare<const CHECKED: bool>(name: &str, frames: &[Frame]) -> [usize; 256
 
 pub fn compare_groups(name: &str, frames: &[Frame]) {
     use crate::ours::GROUPS_WORDS;
-    use crate::plain::{self, Group, MOST_GROUPS};
+    use plain::{Group, MOST_GROUPS};
     for (i, frame) in frames.iter().enumerate() {
         let mut expected = [0xdead; GROUPS_WORDS];
         let mut groups = [Group::default(); MOST_GROUPS];
@@ -172,7 +172,6 @@ pub fn compare_groups(name: &str, frames: &[Frame]) {
 }
 
 pub fn compare_pack(name: &str, requests: &[crate::frames::Request]) {
-    use crate::plain;
     for (i, r) in requests.iter().enumerate() {
         let (mut out, mut expected) = ([0x55; 64], [0x55; 64]);
         let result = plain::pack(&r.pgns, &r.lengths, &r.data, &mut expected);

@@ -1,4 +1,5 @@
-//! The other side in plain Rust: frames, groups and packing. Written from 01; shares nothing with crates/.
+//! The data link in plain Rust, to measure against and to compare with: frames, groups, packing and the receiver. Written from 01; shares
+//! nothing with crates/.
 
 pub mod receiver;
 

@@ -1,14 +1,13 @@
-//! Ours beside plain Rust, on the same frames in one process. See docs/SPEED.md; bench/speed runs it.
+//! The calls for C beside plain Rust, on the same frames in one process. See docs/SPEED.md; bench/speed runs it.
 //!
-//!     link equal                     compares the answers of both sides
-//!     link time                      case, operations' frames, ns an operation: ours, checked, unchecked
-//!     link cases                     the names of the cases
-//!     link run CASE SIDE ROUNDS      one side of one case, for counting its instructions
+//!     calls equal                     compares the answers of both sides
+//!     calls time                      case, operations' frames, ns an operation: ours, checked, unchecked
+//!     calls cases                     the names of the cases
+//!     calls run CASE SIDE ROUNDS      one side of one case, for counting its instructions
 
 mod equal;
 mod frames;
 mod ours;
-mod plain;
 
 use frames::{Frame, Sender, LIMIT, OWN};
 use ours::{Ours, STORE_BYTES};
@@ -319,7 +318,7 @@ fn main() {
             side(rounds.parse().expect("a number of rounds"));
         }
         _ => {
-            eprintln!("usage: link equal | cases | time | run CASE SIDE ROUNDS");
+            eprintln!("usage: calls equal | cases | time | run CASE SIDE ROUNDS");
             std::process::exit(2);
         }
     }

@@ -1,6 +1,6 @@
 //! Our side: the buffers that a program in C would hold, and the calls on them (tests/rust/boundary).
 
-use crate::plain::{SLOTS, SLOT_BYTES};
+use plain::{SLOTS, SLOT_BYTES};
 
 pub const RECORD_BYTES: usize = 249;
 pub const STORE_BYTES: usize = SLOTS * SLOT_BYTES;

@@ -1,7 +1,5 @@
 //! The frames that both sides are given. They are the same in every run.
 
-use crate::plain;
-
 pub const OWN: u8 = 33;
 pub const LIMIT: u32 = 1250;
 /// The largest message: 69 segments.
