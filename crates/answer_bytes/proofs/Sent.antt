@@ -1,30 +1,23 @@
 -- An answer put into its buffer.
-use Prim.Native.Nat.{ℕ, _+_, _-_, _≤_}
+use Prim.Native.Nat.{ℕ, _+_, _-_}
 use native.Mathlib.Omega.{arith}
 use mathlib.Core.Path.{_≡_, refl, sym, ap, _∙_}
-use mathlib.Core.List.{List, _++_, append-assoc, append-nil}
-use lib.ListN.{length, take, drop, replicate, drop-of-length-le, take-append-drop}
+use mathlib.Core.List.{List, _++_, append-assoc}
+use lib.ListN.{length, take, drop, replicate, take-append-drop}
 use lib.Seq.{paste, take-paste, drop-paste, length-paste, take-all}
+use Rattle.laws.specs.Pastes.{paste-end}
 use Rattle.transport.specs.declared.response.Response.{Response}
 use Rattle.transport.specs.Responses.{responseBytes, responseId}
-use Rattle.receiver.specs.declared.answer.Answer.{Answer}
-use Rattle.receiver.specs.declared.answer.Answer.the-variants.{Ended}
-use Rattle.receiver.specs.declared.answer.End.the-variants as end
-use Rattle.receiver.specs.declared.answer.Ending.{Ending}
-use Rattle.receiver.specs.declared.answer.Sending.{Sending}
-use Rattle.receiver.specs.declared.answer.Sending.the-variants as sending
-use Rattle.receiver.specs.Answers.{answerSends, endSends, sendingOf}
-use Rattle.answer_bytes.specs.declared.answer.Fields.{Fields}
+use Rattle.answer.specs.declared.Answer.{Answer}
+use Rattle.answer.specs.declared.Answer.the-variants.{Ended}
+use Rattle.answer.specs.declared.End.the-variants as end
+use Rattle.answer.specs.declared.Ending.{Ending}
+use Rattle.answer.specs.declared.sent.Sending.{Sending}
+use Rattle.answer.specs.declared.sent.Sending.the-variants as sending
+use Rattle.answer.specs.Answers.{answerSends, endSends, sendingOf}
+use Rattle.answer_bytes.specs.declared.Fields.{Fields}
 use Rattle.answer_bytes.specs.Sizes.{length-response}
 use Rattle.answer_bytes.specs.Answers.{endedFields, fieldsOf, fieldsBytes, sentHead, responseSent, sentBytes, answerBytes}
-
--- a copy that reaches the end
-pub paste-end : (d : List ℕ) (at : ℕ) (s : List ℕ) (n : ℕ) → length d ≡ at + n → length s ≡ n → paste d at s n ≡ take at d ++ s
-paste-end d at s n e f =
-    let w : length d ≤ at + n = omega arith in
-    ap (λ (l : List ℕ). take at d ++ take n s ++ l) (drop-of-length-le d w)
-    ∙ append-nil (take at d ++ take n s)
-    ∙ ap (λ (l : List ℕ). take at d ++ l) (take-all n s (omega arith))
 
 pub response-put : (f : Response) (d o₁ o₂ h b : List ℕ) (id : ℕ) → length d ≡ 36 → id ≡ responseId f → h ≡ sentHead id → b ≡ responseBytes f
     → o₁ ≡ paste d 19 h 5 → o₂ ≡ paste o₁ 24 b 12 → o₂ ≡ take 19 d ++ responseSent f

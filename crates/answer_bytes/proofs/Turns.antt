@@ -6,7 +6,7 @@ use mathlib.Core.List.{List, _++_, append-assoc, append-nil}
 use lib.ListN.{length, getD, take, drop}
 use lib.Seq.{paste, take-paste, length-paste, take-all}
 use Rattle.laws.specs.Turn.{turn, end}
-use Rattle.receiver.specs.declared.answer.SlotEnd.{SlotEnd}
+use Rattle.answer.specs.declared.SlotEnd.{SlotEnd}
 use Rattle.answer_bytes.specs.Ends.{endBytes, endsBytes}
 use Rattle.answer_bytes.specs.EndLaws.{length-end}
 

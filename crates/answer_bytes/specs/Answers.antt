@@ -7,16 +7,16 @@ use Rattle.transport.specs.declared.Key.{Key}
 use Rattle.transport.specs.declared.response.Cts.{Cts}
 use Rattle.transport.specs.declared.response.Response.{Response}
 use Rattle.transport.specs.Responses.{responseBytes, responseId}
-use Rattle.receiver.specs.declared.answer.Message.{Message}
-use Rattle.receiver.specs.declared.answer.Ending.{Ending}
-use Rattle.receiver.specs.declared.answer.Rejection.{Rejection}
-use Rattle.receiver.specs.declared.answer.Taken as taken
-use Rattle.receiver.specs.declared.answer.Answer.{Answer}
-use Rattle.receiver.specs.declared.answer.Answer.the-variants.{Groups, Opened, Taken, Grant, HandedOver, Aborted, Ended, RefusedRts, Refused}
-use Rattle.receiver.specs.declared.answer.Sending.{Sending}
-use Rattle.receiver.specs.declared.answer.Sending.the-variants as sending
-use Rattle.receiver.specs.Answers.{answerSends, sendingOf}
-use Rattle.answer_bytes.specs.declared.answer.Fields.{Fields}
+use Rattle.answer.specs.declared.Message.{Message}
+use Rattle.answer.specs.declared.Ending.{Ending}
+use Rattle.answer.specs.declared.Rejection.{Rejection}
+use Rattle.answer.specs.declared.Taken as taken
+use Rattle.answer.specs.declared.Answer.{Answer}
+use Rattle.answer.specs.declared.Answer.the-variants.{Groups, Opened, Taken, Grant, HandedOver, Aborted, Ended, RefusedRts, Refused}
+use Rattle.answer.specs.declared.sent.Sending.{Sending}
+use Rattle.answer.specs.declared.sent.Sending.the-variants as sending
+use Rattle.answer.specs.Answers.{answerSends, sendingOf}
+use Rattle.answer_bytes.specs.declared.Fields.{Fields}
 use Rattle.record_bytes.specs.Layout.{low4, kindByte}
 
 abbrev pub noKey : Key
@@ -50,7 +50,7 @@ rejectionFields j =
     record { number = numberOf (j .refusal); code = 8; key = j .key; kind = 1; extra = 0; pgn = j .pgn; total = 0; segment = 0 }
 
 abbrev pub fieldsOf : Answer → Fields
-fieldsOf Groups = keyed 1 0 noKey
+fieldsOf (Groups route) = keyed 1 0 noKey
 fieldsOf (Opened k) = keyed 2 0 k
 fieldsOf (Taken t) = takenFields t
 fieldsOf (Grant c) = grantFields c

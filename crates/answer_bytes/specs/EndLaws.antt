@@ -5,11 +5,11 @@ use mathlib.Core.Path.{_≡_, refl, ap, _∙_}
 use mathlib.Core.List.{List, [], _∷_, _++_}
 use lib.ListN.{length, getD, take, drop, replicate}
 use lib.Seq.{take-at, drop-at, drop-append-add}
-use Rattle.receiver.specs.declared.answer.Answer.the-variants.{Ended}
-use Rattle.receiver.specs.declared.answer.End.{End}
-use Rattle.receiver.specs.declared.answer.End.the-variants as end
-use Rattle.receiver.specs.declared.answer.SlotEnd.{SlotEnd}
-use Rattle.receiver.specs.Answers.{endSends, sendingOf}
+use Rattle.answer.specs.declared.Answer.the-variants.{Ended}
+use Rattle.answer.specs.declared.End.{End}
+use Rattle.answer.specs.declared.End.the-variants as end
+use Rattle.answer.specs.declared.SlotEnd.{SlotEnd}
+use Rattle.answer.specs.Answers.{endSends, sendingOf}
 use Rattle.receiver.specs.Calls.{stays}
 use Rattle.answer_bytes.specs.Answers.{fieldsOf, fieldsBytes, sentBytes}
 use Rattle.answer_bytes.specs.Sizes.{length-answer, length-fields}

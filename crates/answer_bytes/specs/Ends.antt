@@ -2,10 +2,10 @@
 use mathlib.Core.List.{List, [], _∷_, _++_}
 use Prim.Native.Nat.{ℕ}
 use lib.ListN.{replicate}
-use Rattle.receiver.specs.declared.answer.Answer.the-variants.{Ended}
-use Rattle.receiver.specs.declared.answer.End.{End}
-use Rattle.receiver.specs.declared.answer.End.the-variants as end
-use Rattle.receiver.specs.declared.answer.SlotEnd.{SlotEnd}
+use Rattle.answer.specs.declared.Answer.the-variants.{Ended}
+use Rattle.answer.specs.declared.End.{End}
+use Rattle.answer.specs.declared.End.the-variants as end
+use Rattle.answer.specs.declared.SlotEnd.{SlotEnd}
 use Rattle.answer_bytes.specs.Answers.{answerBytes}
 
 -- a session that ended is answered as a frame that ends one; zeros where none did

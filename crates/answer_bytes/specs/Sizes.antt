@@ -5,11 +5,11 @@ use lib.ListN.{length, length-append}
 use Rattle.transport.specs.declared.response.Response.{Response}
 use Rattle.transport.specs.declared.response.Response.the-variants.{Cts, Eoma, Abort}
 use Rattle.transport.specs.Responses.{responseBytes, responseId}
-use Rattle.receiver.specs.declared.answer.Answer.{Answer}
-use Rattle.receiver.specs.declared.answer.Sending.{Sending}
-use Rattle.receiver.specs.declared.answer.Sending.the-variants as sending
-use Rattle.receiver.specs.Answers.{answerSends, sendingOf}
-use Rattle.answer_bytes.specs.declared.answer.Fields.{Fields}
+use Rattle.answer.specs.declared.Answer.{Answer}
+use Rattle.answer.specs.declared.sent.Sending.{Sending}
+use Rattle.answer.specs.declared.sent.Sending.the-variants as sending
+use Rattle.answer.specs.Answers.{answerSends, sendingOf}
+use Rattle.answer_bytes.specs.declared.Fields.{Fields}
 use Rattle.answer_bytes.specs.Answers.{fieldsOf, fieldsBytes, sentHead, sentBytes, answerBytes}
 
 pub length-response : (f : Response) → length (responseBytes f) ≡ 12

@@ -1,19 +1,19 @@
 // The answers of a reading as bytes: one for each slot, in the slots' order.
 ghost use mathlib.Core.Path.{_≡_};
 ghost use lib.ListN.{length};
-ghost use Rattle.receiver.specs.declared.answer.Answer.the-variants.{Ended};
+ghost use Rattle.answer.specs.declared.Answer.the-variants.{Ended};
 ghost use Rattle.answer_bytes.specs.Answers.{answerBytes};
 ghost use Rattle.answer_bytes.specs.Ends.{endBytes, endsBytes};
-use super::answer::ANSWER_BYTES;
-use super::answer::ended_fields;
-use super::answer::fields_bytes;
-use super::answer::put_response;
-use receiver::answer::End;
-use receiver::answer::Ending;
-use receiver::answer::Sending;
-use receiver::answer::SlotEnd;
-use receiver::answer::response_of_end;
-use record_bytes::layout::copy;
+use super::ANSWER_BYTES;
+use super::ended_fields;
+use super::fields_bytes;
+use super::put_response;
+use answer::End;
+use answer::Ending;
+use answer::SlotEnd;
+use answer::sent::Sending;
+use answer::sent::response_of_end;
+use octets::copy;
 use slots::SLOTS;
 
 pub const ANSWERS_BYTES: usize = 288;
@@ -24,7 +24,7 @@ fn ended_bytes(e: Ending) -> [u8; 36]
 {
     let mut piece = [0u8; 36];
     let head = fields_bytes(ended_fields(e));
-    copy(&mut piece, 0, &head, 19);
+    copy(&mut piece, 0, &head, 0, 19);
     match response_of_end(End::Ended(e)) {
         Sending::Nothing => piece,
         Sending::Send(f) => {
@@ -53,7 +53,7 @@ pub fn write_ends(ends: [SlotEnd; 8], out: &mut [u8])
     let mut i: usize = 0;
     while i < SLOTS {
         let piece = end_bytes(ends[i]);
-        copy(out, ANSWER_BYTES * i, &piece, ANSWER_BYTES);
+        copy(out, ANSWER_BYTES * i, &piece, 0, ANSWER_BYTES);
         i = i + 1;
     }
 }

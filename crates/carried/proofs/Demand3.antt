@@ -10,8 +10,10 @@ use Rattle.frame.specs.declared.Address.{Address}
 use Rattle.frame.specs.declared.refusal.Refusal.the-variants.{OutOfBounds}
 use Rattle.slots.specs.Bounds.{openingOk}
 use Rattle.receiver.specs.declared.Receiver.{Receiver}
-use Rattle.receiver.specs.declared.answer.Opening.the-variants.{Accepted, Refused}
+use Rattle.answer.specs.declared.Acceptance.the-variants.{Accepted, Refused}
+use Rattle.answer.specs.Answers.{acceptanceNumber}
 use Rattle.receiver.specs.Bounds.{opened, openedWith}
+use Rattle.record_bytes.specs.Places.{recordLength}
 use Rattle.record_bytes.specs.Layout.{recordBytes}
 use Rattle.record_bytes.specs.RoundTrip.{is-record, read-back}
 use Rattle.dwaebinam.specs.Calls.{openedIn}
@@ -29,7 +31,7 @@ use Rattle.carried.proofs.Run.{Fine, fine-fits, Carried, carried}
 opens : (own limit first : ℕ) (d : List ℕ) → openedIn own limit first d .0 ≡ 0
     → (opened (record { 0 = own }) limit first .answer ≡ Accepted) × (openedIn own limit first d .1 ≡ recordBytes (openedWith (record { 0 = own }) limit first))
 unfolding openedIn opened
-opens own limit first d e = go (not (eqb (length d) 249)) (openingOk O limit) e
+opens own limit first d e = go (not (eqb (length d) recordLength)) (openingOk O limit) e
   where
     O : Address
     O = record { 0 = own }
@@ -37,8 +39,8 @@ opens own limit first d e = go (not (eqb (length d) 249)) (openingOk O limit) e
     w : List ℕ
     w = recordBytes (openedWith O limit first)
 
-    go : (t u : Bool) → cond {A = ℕ × List ℕ} t (23, d) (cond u 0 23, w) .0 ≡ 0
-        → (cond u Accepted (Refused OutOfBounds) ≡ Accepted) × (cond {A = ℕ × List ℕ} t (23, d) (cond u 0 23, w) .1 ≡ w)
+    go : (t u : Bool) → cond {A = ℕ × List ℕ} t (23, d) (acceptanceNumber (cond u Accepted (Refused OutOfBounds)), w) .0 ≡ 0
+        → (cond u Accepted (Refused OutOfBounds) ≡ Accepted) × (cond {A = ℕ × List ℕ} t (23, d) (acceptanceNumber (cond u Accepted (Refused OutOfBounds)), w) .1 ≡ w)
     go true u e = absurd (omega arith)
     go false true e = (refl, refl)
     go false false e = absurd (omega arith)

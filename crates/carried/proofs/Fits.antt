@@ -1,68 +1,71 @@
--- A record in bounds that is narrow fits, and every call on it leaves it narrow.
-use Prim.Native.Nat.{ℕ, zero, suc, _+_, _-_, _<_, _≤_, min}
+-- A record in bounds that is narrow fits, and every call on it leaves it narrow and answers what fits: by the four changes that a session
+-- makes, and the one application.
+use Prim.Native.Nat.{ℕ, zero, suc, _+_, _<_, _≤_}
 use native.Mathlib.Omega.{arith}
 use mathlib.Core.Path.{_≡_, refl}
 use mathlib.Core.Bool.{Bool, true, false, cond, not, _&&_}
 use mathlib.Core.List.{List, [], _∷_, map}
+use mathlib.Mathlib.Data.Bool.Basic.{and-elim-left, and-elim-right}
 use lib.Dec.{eqb, leb, ltb}
 use lib.ListN.{length, getD, set, replicate}
 use borrow.Author.Tests.{ltb-true, leb-true}
 use Rattle.laws.specs.Choice.{each-of}
 use Rattle.frame.specs.declared.Address.{Address}
 use Rattle.frame.specs.declared.refusal.Refusal.{Refusal}
-use Rattle.frame.specs.declared.refusal.Refusal.the-variants.{AnnouncementForm, KeyOpen, SlotsFull, KeyNotOpen, FormatIndicator, StatusMismatch, OutOfBounds}
+use Rattle.frame.specs.declared.refusal.Refusal.the-variants.{Silence, OutOfBounds, TransferLength, NotReceivers}
 use Rattle.frame.specs.declared.judge.Verdict.{Verdict}
 use Rattle.frame.specs.declared.judge.Verdict.the-variants as verdict
 use Rattle.frame.specs.declared.judge.Route.{Route}
 use Rattle.frame.specs.Judge.{judged}
+use Rattle.frame.specs.Octets.{low24}
 use Rattle.frame.specs.Pgn.{lowByteOk}
 use Rattle.multi_pg.specs.Groups.{Reading, good, bad, reading}
 use Rattle.transport.specs.declared.Key.{Key}
+use Rattle.transport.specs.declared.Kind.the-variants.{Rts, Bam}
 use Rattle.transport.specs.declared.control.Announcement.{Announcement}
-use Rattle.transport.specs.declared.control.Status.{Status}
-use Rattle.transport.specs.declared.control.Control.{Control}
 use Rattle.transport.specs.declared.control.Control.the-variants as control
 use Rattle.transport.specs.declared.segment.Segment.{Segment}
 use Rattle.transport.specs.declared.segment.DataFrame.{DataFrame}
 use Rattle.transport.specs.declared.segment.DataFrame.the-variants as dataframe
-use Rattle.transport.specs.Control.{keyOf, controlOf}
+use Rattle.transport.specs.Control.{controlAt, keyOf, announcementAt, statusAt, roleAt, abortPgnAt, controlOf}
 use Rattle.transport.specs.Segments.{dataFrameOf}
+use Rattle.answer.specs.declared.Answer.{Answer}
+use Rattle.answer.specs.declared.Acceptance.the-variants as acceptance
+use Rattle.answer.specs.declared.End.the-variants as end
 use Rattle.session.specs.declared.Session.{Session}
-use Rattle.session.specs.declared.announcement.Form.{Form}
-use Rattle.session.specs.declared.announcement.Form.the-variants as form
-use Rattle.session.specs.declared.segment.Judged.{Judged}
-use Rattle.session.specs.declared.segment.Judged.the-variants as judged-segment
-use Rattle.session.specs.Announcements.{isRts, misdirected, formOf, grantOf, firstGranted, sessionOf}
-use Rattle.session.specs.Segments.{judgedOf, ctsDue, grantedBy, advancedBy}
-use Rattle.session.specs.Ends.{statusMatches, isIdle}
+use Rattle.session.specs.declared.State.{State}
+use Rattle.session.specs.declared.State.the-variants.{Closed, Open}
+use Rattle.session.specs.declared.Change.{Change}
+use Rattle.session.specs.declared.Change.the-variants.{Stays, Opens, Moves, Ends}
+use Rattle.session.specs.declared.Step.{Step}
+use Rattle.session.specs.Ends.{isIdle}
+use Rattle.session.specs.Decisions.{announcedTo, segmentTo, statusTo, abortTo, after, endingOf}
+use Rattle.session.specs.Bounds.{stateOk}
+use Rattle.session.specs.InBounds.{Sound, sound-of}
+use Rattle.session.specs.Fits.{StateSmall, ChangeFits, AnswerFits, StepFits, announce-fits, segment-fits, status-fits, abort-fits}
 use Rattle.slots.specs.declared.Slot.{Slot}
-use Rattle.slots.specs.declared.SlotState.{SlotState}
-use Rattle.slots.specs.declared.SlotState.the-variants.{Free, Open}
 use Rattle.slots.specs.declared.Found.{Found}
 use Rattle.slots.specs.declared.Found.the-variants.{At, Nothing}
-use Rattle.slots.specs.Slots.{keyPlace, firstFree, freeSlot, onFound, onState}
-use Rattle.slots.specs.Bounds.{openingOk, stateOk, slotOk, twinOf, slotsOk}
+use Rattle.slots.specs.Slots.{Within, slotFor, stateIn, isAt, freeSlot}
+use Rattle.slots.specs.Bounds.{openingOk, slotOk, twinOf, slotsOk}
 use Rattle.receiver.specs.declared.Receiver.{Receiver}
-use Rattle.receiver.specs.declared.answer.Answer.the-variants as answer
-use Rattle.receiver.specs.declared.answer.Kept.the-variants as kept
-use Rattle.receiver.specs.declared.answer.Elapsed.{Elapsed}
 use Rattle.receiver.specs.Bounds.{inBounds}
-use Rattle.receiver.specs.Calls.{Outcome, answered, refused, withSlot, ended, rejected, openedIn, takeSlot, onForm, announceStep, messageOf, statusOpen, abortOpen, onKey, statusStep, abortStep, onControl, controlStep, onJudged, segmentOpen, segmentStep, onData, isReady, groupsStep, onVerdict, frameAll, expired, stays, readingKept, readingStep}
+use Rattle.receiver.specs.Calls.{Outcome, Stepped, Elapsed, refused, withSlot, applied, apply, slotOf, announceStep, statusStep, abortStep, onControl, controlStep, segmentStep, onData, isReady, groupsStep, onVerdict, frameAll, afterEnd, expired, stays, readingKept, readingStep}
+use Rattle.record_bytes.specs.Kept.{Bytes}
 use Rattle.record_bytes.specs.RoundTrip.{SessionFits, StateFits, SlotsFit, RecordFits}
-use Rattle.isolation.proofs.Tests.{and-left, and-right}
-use Rattle.isolation.proofs.Sound.{Ok, true-ok}
+use Rattle.dwaebinam.specs.Handed.{for-within}
 use Rattle.carried.specs.Fitting.{StateNarrow, SlotsNarrow, Narrow}
 
 -- ---- what fits
 
-state-fits : (own : Address) (x : SlotState) → stateOk own x ≡ true → StateNarrow x → StateFits x
-state-fits own Free e h = tt
+state-fits : (own : Address) (x : State) → stateOk own x ≡ true → StateNarrow x → StateFits x
+state-fits own Closed e h = tt
 state-fits own (Open s) e (g, m) =
-    let ok : Ok own s = true-ok own s e in
-    let p : s .pgn < 262144 = ltb-true (s .pgn) 262144 (and-left (ltb (s .pgn) 262144) (lowByteOk (s .pgn)) (ok .pgn)) in
-    let t : s .total .0 ≤ 4096 = ok .most in
-    let c : s .segments .0 ≤ 4155 = (let z = ok .count in omega arith) in
-    let n : s .next .0 ≤ s .segments .0 + 1 = ok .high in
+    let ok : Sound own s = sound-of own s e in
+    let p : s .announced .pgn < 262144 = ltb-true (s .announced .pgn) 262144 (and-elim-left (ltb (s .announced .pgn) 262144) (lowByteOk (s .announced .pgn)) (ok .agreed .form)) in
+    let t : s .announced .total .0 ≤ 4096 = ok .agreed .fits in
+    let c : s .announced .segments .0 ≤ 4155 = (let z = ok .agreed .count in omega arith) in
+    let n : s .progress .next .0 ≤ s .announced .segments .0 + 1 = ok .reached .high in
     record { total = omega arith; segments = omega arith; pgn = omega arith; next = omega arith; granted = g; mark = m }
 
 slots-fit : (own : Address) (l : List Slot) → slotsOk own l ≡ true → SlotsNarrow l → SlotsFit l
@@ -77,13 +80,13 @@ slots-fit own (s ∷ ss) e (h, hs) =
 pub record-fits : (r : Receiver) → inBounds r ≡ true → length (r .slots) ≡ 8 → Narrow r → RecordFits r
 unfolding inBounds
 record-fits r e eight h =
-    let o = and-left (openingOk (r .own) (r .limit)) (slotsOk (r .own) (r .slots)) e in
-    let l : r .limit ≤ 60000 = leb-true (r .limit) 60000 (and-right (leb (r .own .0) 253 && leb 1 (r .limit)) (leb (r .limit) 60000) o) in
+    let o = and-elim-left (openingOk (r .own) (r .limit)) (slotsOk (r .own) (r .slots)) e in
+    let l : r .limit ≤ 60000 = leb-true (r .limit) 60000 (and-elim-right (leb (r .own .0) 253 && leb 1 (r .limit)) (leb (r .limit) 60000) o) in
     record {
       limit = omega arith;
       last = h .last;
       eight = eight;
-      slots = slots-fit (r .own) (r .slots) (and-right (openingOk (r .own) (r .limit)) (slotsOk (r .own) (r .slots)) e) (h .slots);
+      slots = slots-fit (r .own) (r .slots) (and-elim-right (openingOk (r .own) (r .limit)) (slotsOk (r .own) (r .slots)) e) (h .slots);
     }
 
 -- ---- slots
@@ -102,137 +105,124 @@ narrow-expired : (limit t : ℕ) (l : List Slot) → SlotsNarrow l → SlotsNarr
 narrow-expired limit t [] h = tt
 narrow-expired limit t (x ∷ l) (h, hs) = (go (x .state) h, narrow-expired limit t l hs)
   where
-    by : (s : Session) → StateNarrow (Open s) → (b : Bool) → StateNarrow (cond b Free (Open s))
+    by : (s : Session) → StateNarrow (Open s) → (b : Bool) → StateNarrow (afterEnd (cond b (end.Ended (endingOf s Silence)) end.Stays) (Open s))
     by s h true = tt
     by s h false = h
 
-    go : (st : SlotState) → StateNarrow st → StateNarrow (expired limit t (record { state = st }) .state)
-    go Free h = tt
-    go (Open s) h = by s h (isIdle limit (s .mark) t)
+    go : (st : State) → StateNarrow st → StateNarrow (expired limit t (record { state = st }) .state)
+    go Closed h = tt
+    go (Open s) h = by s h (isIdle limit (s .progress .mark) t)
 
--- ---- grants
+-- ---- a step applied to its slot
 
-first-small : (a : Announcement) → firstGranted a < 4294967296
-unfolding grantOf
-first-small a = go (isRts (a .kind))
-  where
-    go : (t : Bool) → cond t (min (min (a .max) 16) (a .segments .0)) 0 < 4294967296
-    go true = omega arith
-    go false = omega arith
+small-of : (x : State) → StateFits x → StateSmall x
+small-of Closed f = tt
+small-of (Open s) f = record { total = f .total; segments = f .segments; pgn = f .pgn; granted = f .granted }
 
--- a grant goes no further than the last segment
-next-small : (s : Session) (n : ℕ) → s .segments .0 < 4294967296 → s .granted .0 < 4294967296 → grantedBy s n < 4294967296
-unfolding grantOf
-next-small s n h g = go (ctsDue s n) refl
-  where
-    go : (t : Bool) → ctsDue s n ≡ t → cond t (n + min (min (s .max) 16) (s .segments .0 - n)) (s .granted .0) < 4294967296
-    go true e =
-        let l : n < s .segments .0 = ltb-true n (s .segments .0) (and-right (isRts (s .kind) && eqb n (s .granted .0)) (ltb n (s .segments .0)) e) in
-        omega arith
-    go false e = g
+pgn-small : (d : List ℕ) → Bytes d → low24 d 9 < 4294967296
+pgn-small d h =
+    let a : getD d 9 0 < 256 = h 9 in
+    let b : getD d 10 0 < 256 = h 10 in
+    let c : getD d 11 0 < 256 = h 11 in
+    omega arith
 
--- ---- a frame
+-- the next record is narrow, and the answer's numbers have their places
+pub record Well (x : Stepped) : Type 0 where
+  pub narrow : Narrow (x .next)
+  pub answer : AnswerFits (x .answer)
 
 module _ (r : Receiver) (h : Narrow r) (f : RecordFits r) where
-  with-slot : (i : ℕ) (st : SlotState) → StateNarrow st → Narrow (withSlot r i st)
-  with-slot i st g = record { last = h .last; slots = narrow-set (r .slots) i (record { state = st }) (h .slots) g }
+  after-narrow : (x : State) (c : Change) → StateNarrow x → ChangeFits c → StateNarrow (after x c)
+  after-narrow x Stays n g = n
+  after-narrow x (Opens s) n g = g
+  after-narrow Closed (Moves p) n g = tt
+  after-narrow (Open s) (Moves p) n g = g
+  after-narrow x Ends n g = tt
 
-  rejects : (k : Key) (a : Announcement) (n : Refusal) → Narrow (rejected r k a n .next)
-  rejects k a n = go (isRts (a .kind))
-    where
-      go : (t : Bool) → Narrow (cond t (answered r (answer.RefusedRts (record { key = k; refusal = n; pgn = a .pgn }))) (refused r n) .next)
-      go true = h
-      go false = h
+  narrow-at : (l : List Slot) (i : ℕ) → SlotsNarrow l → StateNarrow (getD l i freeSlot .state)
+  narrow-at [] i n = tt
+  narrow-at (x ∷ l) zero (n, ns) = n
+  narrow-at (x ∷ l) (suc i) (n, ns) = narrow-at l i ns
 
-  takes-slot : (k : Key) (a : Announcement) → Narrow (takeSlot r k a .next)
-  unfolding takeSlot
-  takes-slot k a = go (keyPlace k (r .slots)) (firstFree (r .slots))
-    where
-      go : (p q : Found) → Narrow (onFound p (λ i. rejected r k a KeyOpen) (onFound q (λ i. openedIn r i k a) (rejected r k a SlotsFull)) .next)
-      go (At i) q = rejects k a KeyOpen
-      go Nothing (At i) = with-slot i (Open (sessionOf k a (r .last))) (first-small a, h .last)
-      go Nothing Nothing = rejects k a SlotsFull
+  put : (i : ℕ) (c : Change) → ChangeFits c → Narrow (withSlot r i (after (getD (r .slots) i freeSlot .state) c))
+  put i c g = record {
+    last = h .last;
+    slots = narrow-set (r .slots) i (record { state = after (getD (r .slots) i freeSlot .state) c }) (h .slots) (after-narrow (getD (r .slots) i freeSlot .state) c (narrow-at (r .slots) i (h .slots)) g);
+  }
 
-  announces : (k : Key) (a : Announcement) → Narrow (announceStep r k a .next)
+  applied-narrow : (i : ℕ) (c : Change) → ChangeFits c → Narrow (applied r i c)
+  applied-narrow i Stays g = h
+  applied-narrow i (Opens s) g = put i (Opens s) g
+  applied-narrow i (Moves p) g = put i (Moves p) g
+  applied-narrow i Ends g = put i Ends g
+
+  well : (g : Found) (st : Step) → StepFits st → Well (apply r g st)
+  well (At i) st s = record { narrow = applied-narrow i (st .change) (s .change); answer = s .answer }
+  well Nothing st s = record { narrow = h; answer = s .answer }
+
+  refused-well : (n : Refusal) → Well (refused r n)
+  refused-well n = record { narrow = h; answer = tt }
+
+  -- ---- a frame, by the slot for its key
+
+  state-small : (g : Found) → StateSmall (stateIn g (r .slots))
+  state-small Nothing = tt
+  state-small (At i) = small-of (getD (r .slots) i freeSlot .state) (fits-at (r .slots) i (f .slots))
+
+  slot-small : (g : Found) → Within g 8 → slotOf g < 256
+  slot-small Nothing w = omega arith
+  slot-small (At i) w = omega arith
+
+  announces : (k : Key) (a : Announcement) → a .pgn < 4294967296 → Well (announceStep r k a)
   unfolding announceStep
-  announces k a = go (misdirected (k .da) (a .kind)) (formOf a)
+  announces k a p =
+      let g : Found = slotFor k (r .slots) in
+      well g (announcedTo (stateIn g (r .slots)) (isAt g) k a (r .last)) (announce-fits (stateIn g (r .slots)) (isAt g) k a (r .last) p (h .last))
+
+  controls : (route : Route) (d : List ℕ) → Bytes d → Well (controlStep r route d)
+  unfolding controlStep controlOf statusStep abortStep
+  controls route d b = go (not (eqb (length d) 12)) (eqb (controlAt d) 0) (eqb (controlAt d) 4) (eqb (controlAt d) 2) (eqb (controlAt d) 15 && eqb (roleAt d) 0)
     where
-      go : (t : Bool) (x : Form) → Narrow (cond t (refused r AnnouncementForm) (onForm x r k a) .next)
-      go true x = h
-      go false form.Good = takes-slot k a
-      go false (form.Bad n) = rejects k a n
+      K : Key
+      K = keyOf route d
 
-  by-key : {A : Type 0} (g : A → Receiver) (k : Key) (x : ℕ → Session → A) (z : A)
-      → ((i : ℕ) (s : Session) → SessionFits s → Narrow (g (x i s))) → Narrow (g z) → Narrow (g (onKey r k x z))
-  by-key g k x z p q = go (keyPlace k (r .slots))
-    where
-      at-slot : (i : ℕ) (st : SlotState) → StateFits st → Narrow (g (onState st (λ s. x i s) z))
-      at-slot i Free e = q
-      at-slot i (Open s) e = p i s e
+      G : Found
+      G = slotFor (keyOf route d) (r .slots)
 
-      go : (o : Found) → Narrow (g (onFound o (λ i. onState (getD (r .slots) i freeSlot .state) (λ s. x i s) z) z))
-      go Nothing = q
-      go (At i) = at-slot i (getD (r .slots) i freeSlot .state) (fits-at (r .slots) i (f .slots))
+      go : (t u v w x : Bool)
+          → Well (onControl (cond t (control.Refused TransferLength) (cond u (control.Announce (announcementAt Rts d)) (cond v (control.Announce (announcementAt Bam d)) (cond w (control.EndOfMessage (statusAt d)) (cond x (control.Abort (abortPgnAt d)) (control.Refused NotReceivers)))))) r (keyOf route d))
+      go true u v w x = refused-well TransferLength
+      go false true v w x = announces K (announcementAt Rts d) (pgn-small d b)
+      go false false true w x = announces K (announcementAt Bam d) (pgn-small d b)
+      go false false false true x =
+          well G (statusTo (stateIn G (r .slots)) (slotOf G) (statusAt d)) (status-fits (stateIn G (r .slots)) (slotOf G) (statusAt d) (state-small G) (slot-small G (for-within K (r .slots) 8 (f .eight))))
+      go false false false false true = well G (abortTo (stateIn G (r .slots)) (abortPgnAt d)) (abort-fits (stateIn G (r .slots)) (abortPgnAt d))
+      go false false false false false = refused-well NotReceivers
 
-  status : (k : Key) (st : Status) → Narrow (statusStep r k st .next)
-  unfolding statusStep statusOpen
-  status k st = by-key (λ x. x .next) k (λ i s. statusOpen r i s st) (refused r KeyNotOpen) (λ i s e. go i s (statusMatches s st)) h
-    where
-      go : (i : ℕ) (s : Session) (t : Bool) → Narrow (cond t (answered (withSlot r i Free) (answer.HandedOver (messageOf i s))) (ended r i s StatusMismatch) .next)
-      go i s true = with-slot i Free tt
-      go i s false = with-slot i Free tt
+  segments : (k : Key) (sg : Segment) (d m : List ℕ) → Well (segmentStep r k sg d m .0)
+  unfolding segmentStep
+  segments k sg d m =
+      let g : Found = slotFor k (r .slots) in
+      well g (segmentTo (stateIn g (r .slots)) sg (r .last)) (segment-fits (stateIn g (r .slots)) sg (r .last) (state-small g) (h .last))
 
-  aborts : (k : Key) (pgn : ℕ) → Narrow (abortStep r k pgn .next)
-  unfolding abortStep abortOpen
-  aborts k pgn = by-key (λ x. x .next) k (λ i s. abortOpen r i s pgn) (refused r KeyNotOpen) (λ i s e. go i s (eqb pgn (s .pgn))) h
-    where
-      go : (i : ℕ) (s : Session) (t : Bool) → Narrow (cond t (answered (withSlot r i Free) (answer.Aborted (s .key))) (refused r KeyNotOpen) .next)
-      go i s true = with-slot i Free tt
-      go i s false = h
-
-  controls : (route : Route) (d : List ℕ) → Narrow (controlStep r route d .next)
-  unfolding controlStep
-  controls route d = go (controlOf d)
-    where
-      go : (c : Control) → Narrow (onControl c r (keyOf route d) .next)
-      go (control.Announce a) = announces (keyOf route d) a
-      go (control.EndOfMessage st) = status (keyOf route d) st
-      go (control.Abort pgn) = aborts (keyOf route d) pgn
-      go (control.Refused n) = h
-
-  segments : (k : Key) (sg : Segment) (d m : List ℕ) → Narrow (segmentStep r k sg d m .0 .next)
-  unfolding segmentStep segmentOpen
-  segments k sg d m = format (not (eqb (sg .format) 0))
-    where
-      judges : (i : ℕ) (s : Session) → SessionFits s → (j : Judged) → Narrow (onJudged j r i s (sg .number .0) d m .0 .next)
-      judges i s e (judged-segment.Refused x) = h
-      judges i s e (judged-segment.Ends x) = with-slot i Free tt
-      judges i s e judged-segment.Takes = with-slot i (Open (advancedBy s (sg .number .0) (r .last))) (next-small s (sg .number .0) (e .segments) (e .granted), h .last)
-
-      format : (t : Bool) → Narrow (cond t (refused r FormatIndicator, m) (onKey r k (λ i s. segmentOpen r i s sg d m) (refused r KeyNotOpen, m)) .0 .next)
-      format true = h
-      format false =
-          by-key (λ (o : Outcome). o .0 .next) k (λ i s. segmentOpen r i s sg d m) (refused r KeyNotOpen, m)
-          (λ i s e. judges i s e (judgedOf s (sg .number .0) (sg .room))) h
-
-  pub frame-narrow : (id : ℕ) (d m : List ℕ) → Narrow (frameAll r id d m .0 .next)
+  pub frame-well : (id : ℕ) (d m : List ℕ) → Bytes d → Well (frameAll r id d m .0)
   unfolding frameAll
-  frame-narrow id d m = go (isReady r m) (judged (r .own) id (length d))
+  frame-well id d m b = go (isReady r m) (judged (r .own) id (length d))
     where
-      groups : (x : Reading) → Narrow (groupsStep x r .next)
-      groups (good gs) = h
-      groups (bad n) = h
+      groups : (x : Reading) (route : Route) → Well (groupsStep x route r)
+      groups (good gs) route = record { narrow = h; answer = tt }
+      groups (bad n) route = refused-well n
 
-      datas : (x : DataFrame) (route : Route) → Narrow (onData x r (keyOf route d) d m .0 .next)
+      datas : (x : DataFrame) (route : Route) → Well (onData x r (keyOf route d) d m .0)
       datas (dataframe.Segment sg) route = segments (keyOf route d) sg d m
-      datas (dataframe.Refused n) route = h
+      datas (dataframe.Refused n) route = refused-well n
 
-      go : (t : Bool) (v : Verdict) → Narrow (cond t (onVerdict v r d m) (refused r OutOfBounds, m) .0 .next)
-      go false v = h
-      go true (verdict.MultiPg route) = groups (reading d)
-      go true (verdict.Control route) = controls route d
+      go : (t : Bool) (v : Verdict) → Well (cond t (onVerdict v r d m) (refused r OutOfBounds, m) .0)
+      go false v = refused-well OutOfBounds
+      go true (verdict.MultiPg route) = groups (reading d) route
+      go true (verdict.Control route) = controls route d b
       go true (verdict.Data route) = datas (dataFrameOf d) route
-      go true (verdict.Refused n) = h
+      go true (verdict.Refused n) = refused-well n
 
   -- ---- a reading
 
@@ -240,7 +230,7 @@ module _ (r : Receiver) (h : Narrow r) (f : RecordFits r) where
   unfolding readingStep
   reading-narrow t m e = go (isReady r m)
     where
-      go : (b : Bool) → let x : Elapsed = cond b (readingKept r t) (record { next = r; answer = kept.Refused OutOfBounds; ends = replicate 8 stays }) in
+      go : (b : Bool) → let x : Elapsed = cond b (readingKept r t) (record { next = r; answer = acceptance.Refused OutOfBounds; ends = replicate 8 stays }) in
           Narrow (x .next)
       go true = record { last = e; slots = narrow-expired (r .limit) t (r .slots) (h .slots) }
       go false = h

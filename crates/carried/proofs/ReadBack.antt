@@ -1,4 +1,4 @@
--- An answer whose numbers have their places is read off its bytes as it was.
+-- An answer whose numbers have their places is read off its bytes as it was, but for the route of a Multi-PG frame.
 use Prim.Native.Nat.{ℕ, _%_, _<_}
 use native.Mathlib.Omega.{arith}
 use mathlib.Core.Path.{_≡_, refl, ap, ap₂, _∙_}
@@ -10,29 +10,19 @@ use Rattle.frame.specs.declared.refusal.Refusal.{Refusal}
 use Rattle.frame.specs.declared.refusal.Refusal.the-variants.{FrameLength, IdentifierRange, NotTaken, HeaderCut, DataCut, ServiceType, TrailerFormat, PgnForm, TransferLength, NotReceivers, AnnouncementForm, TooLong, Assurance, KeyOpen, SlotsFull, KeyNotOpen, FormatIndicator, AlreadyTaken, OutOfSequence, SegmentCut, StatusMismatch, Silence, OutOfBounds, PackRequest}
 use Rattle.transport.specs.declared.Kind.{Kind}
 use Rattle.transport.specs.declared.Kind.the-variants.{Rts, Bam}
-use Rattle.receiver.specs.declared.answer.Ending.{Ending}
-use Rattle.receiver.specs.declared.answer.Answer.{Answer}
-use Rattle.receiver.specs.declared.answer.Answer.the-variants.{Groups, Opened, Taken, Grant, HandedOver, Aborted, Ended, RefusedRts, Refused}
-use Rattle.receiver.specs.declared.answer.End.{End}
-use Rattle.receiver.specs.declared.answer.End.the-variants as end
-use Rattle.receiver.specs.declared.answer.SlotEnd.{SlotEnd}
+use Rattle.answer.specs.declared.Ending.{Ending}
+use Rattle.answer.specs.declared.Answer.{Answer}
+use Rattle.answer.specs.declared.Answer.the-variants.{Groups, Opened, Taken, Grant, HandedOver, Aborted, Ended, RefusedRts, Refused}
+use Rattle.answer.specs.declared.End.{End}
+use Rattle.answer.specs.declared.End.the-variants as end
+use Rattle.answer.specs.declared.SlotEnd.{SlotEnd}
+use Rattle.session.specs.Fits.{AnswerFits}
 use Rattle.record_bytes.specs.Layout.{kindByte, kindAt}
 use Rattle.record_bytes.specs.RoundTrip.{fourBytes, low32-read-back}
 use Rattle.answer_bytes.specs.Answers.{fieldsBytes, answerBytes}
 use Rattle.answer_bytes.specs.Ends.{endBytes, endsBytes}
 use Rattle.answer_bytes.specs.EndLaws.{length-end}
-use Rattle.carried.specs.ReadBack.{refusalAt, answerAt, endAt, endsAt}
-
-abbrev pub AnswerFits : Answer → Type 0
-AnswerFits Groups = Unit {0}
-AnswerFits (Opened k) = Unit {0}
-AnswerFits (Taken t) = t .number .0 < 4294967296
-AnswerFits (Grant c) = (c .next .0 < 4294967296) × (c .pgn < 4294967296)
-AnswerFits (HandedOver x) = (x .total .0 < 4294967296) × ((x .segments .0 < 4294967296) × ((x .pgn < 4294967296) × (x .slot < 256)))
-AnswerFits (Aborted k) = Unit {0}
-AnswerFits (Ended e) = e .pgn < 4294967296
-AnswerFits (RefusedRts j) = j .pgn < 4294967296
-AnswerFits (Refused n) = Unit {0}
+use Rattle.carried.specs.ReadBack.{refusalAt, answerAt, unrouted, endAt, endsAt}
 
 refusal-back : (n : Refusal) → refusalAt (numberOf n) ≡ n
 refusal-back FrameLength = refl
@@ -70,9 +60,9 @@ ending-back e f =
     ap₂ (λ (k : Kind) (n : Refusal). record { key = e .key; kind = k; refusal = n; pgn = fourBytes (e .pgn) }) (kind-back (e .kind)) (refusal-back (e .refusal))
     ∙ ap (λ (n : ℕ). record { key = e .key; kind = e .kind; refusal = e .refusal; pgn = n }) (low32-read-back (e .pgn) f)
 
-pub answer-back : (a : Answer) → AnswerFits a → answerAt (answerBytes a) ≡ a
+pub answer-back : (a : Answer) → AnswerFits a → answerAt (answerBytes a) ≡ unrouted a
 unfolding fieldsBytes
-answer-back Groups f = refl
+answer-back (Groups route) f = refl
 answer-back (Opened k) f = refl
 answer-back (Taken t) f = ap (λ (n : ℕ). Taken (record { key = t .key; number = record { 0 = n } })) (low32-read-back (t .number .0) f)
 answer-back (Grant c) (f, g) =

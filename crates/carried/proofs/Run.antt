@@ -5,32 +5,35 @@ use mathlib.Core.Bool.{true}
 use mathlib.Core.List.{List, [], _∷_, _++_}
 use lib.ListN.{length}
 use Rattle.receiver.specs.declared.Receiver.{Receiver}
-use Rattle.receiver.specs.declared.answer.Answer.{Answer}
-use Rattle.receiver.specs.declared.answer.SlotEnd.{SlotEnd}
-use Rattle.receiver.specs.declared.answer.Kept.{Kept}
-use Rattle.receiver.specs.declared.answer.Elapsed.{Elapsed}
+use Rattle.answer.specs.declared.Answer.{Answer}
+use Rattle.answer.specs.declared.Answer.the-variants.{Groups, Opened, Taken, Grant, HandedOver, Aborted, Ended, RefusedRts, Refused}
+use Rattle.session.specs.Fits.{AnswerFits}
+use Rattle.answer.specs.declared.SlotEnd.{SlotEnd}
+use Rattle.answer.specs.declared.Acceptance.{Acceptance}
+use Rattle.receiver.specs.Calls.{Elapsed}
 use Rattle.receiver.specs.Bounds.{inBounds}
 use Rattle.receiver.specs.Calls.{Outcome, frameAll, readingStep}
 use Rattle.record_bytes.specs.Layout.{isRecord, recordAt}
 use Rattle.record_bytes.specs.RoundTrip.{RecordFits}
-use Rattle.in_place.specs.Seen.{Seen, frameIn}
+use Rattle.engine.specs.InBytes.{InBytes, frameIn}
 use Rattle.answer_bytes.specs.Answers.{answerBytes}
 use Rattle.answer_bytes.specs.Ends.{endsBytes}
 use Rattle.dwaebinam.specs.Calls.{told, framedIn}
-use Rattle.dwaebinam.specs.Reading.{keptNumber, readIn}
+use Rattle.answer.specs.Answers.{acceptanceNumber}
+use Rattle.dwaebinam.specs.Reading.{readIn}
 use Rattle.isolation.specs.Rules as rules
 use Rattle.isolation.specs.Rules.{Values}
 use Rattle.isolation.specs.World.{frame, clock, lent, elsewhere}
-use Rattle.isolation.specs.Observe.{frameSeen, frameElsewhere, readingSeen, readingElsewhere, shows, recordAfter, storeAfter, observed, recordOver, storeOver}
+use Rattle.isolation.specs.Observe.{saysOf, replyOf, touches, strays, isBoundsRefusal, frameSeen, frameElsewhere, readingSeen, readingElsewhere, shows, recordAfter, storeAfter, observed, recordOver, storeOver}
 use Rattle.isolation.proofs.Demand3.{Sound, stays-in-bounds}
 use Rattle.carried.specs.Fitting.{Narrow}
 use Rattle.carried.specs.Crossed.{Given, Lending, Proper, AllProper, frameGives, gives, bytesAfter, storeLeft, givesOver, bytesOver, leftOver, callsOf, answerGiven, endsGiven, answers, answersOver}
-use Rattle.carried.specs.ReadBack.{answerAt, endsAt, keptAt}
+use Rattle.carried.specs.ReadBack.{answerAt, unrouted, endsAt, acceptanceAt}
 use Rattle.carried.specs.Shown.{outcomeOf, elapsedOf, shown, shownOver}
-use Rattle.carried.proofs.Fits.{record-fits, frame-narrow, reading-narrow}
+use Rattle.carried.proofs.Fits.{record-fits, frame-well, reading-narrow}
 use Rattle.carried.proofs.Step.{Holds, Frames, Reads, frame-step, reading-step, framed-is}
-use Rattle.carried.proofs.ReadBack.{AnswerFits, EndsFit, answer-back, ends-back}
-use Rattle.carried.proofs.Answers.{frame-answers, reading-number, reading-eight, reading-ends}
+use Rattle.carried.proofs.ReadBack.{EndsFit, answer-back, ends-back}
+use Rattle.carried.proofs.Answers.{reading-number, reading-eight, reading-ends}
 
 -- ---- what is kept from call to call
 
@@ -45,9 +48,9 @@ fine-fits r m h = record-fits r (h .bounds) (h .eight) (h .narrow)
 
 narrow-after : (r : Receiver) (m : List ℕ) → Fine r m → (l : Lending) → Proper l → Narrow (recordAfter r m (l .0))
 unfolding recordAfter
-narrow-after r m h (lent (frame id d), a) (p, q) = frame-narrow r (h .narrow) (fine-fits r m h) id d m
+narrow-after r m h (lent (frame id d), a) (p, q) = frame-well r (h .narrow) (fine-fits r m h) id d m q .narrow
 narrow-after r m h (lent (clock t), a) (p, q) = reading-narrow r (h .narrow) (fine-fits r m h) t m q
-narrow-after r m h (elsewhere o e (frame id d), a) (p, q) = frame-narrow r (h .narrow) (fine-fits r m h) id d o
+narrow-after r m h (elsewhere o e (frame id d), a) (p, q) = frame-well r (h .narrow) (fine-fits r m h) id d o q .narrow
 narrow-after r m h (elsewhere o e (clock t), a) (p, q) = reading-narrow r (h .narrow) (fine-fits r m h) t o q
 
 pub fine-after : (r : Receiver) (m : List ℕ) → Fine r m → (l : Lending) → Proper l → Fine (recordAfter r m (l .0)) (storeAfter r m (l .0))
@@ -64,26 +67,52 @@ pub record Same (r : Receiver) (b m : List ℕ) (l : Lending) : Type 0 where
   pub next : Holds (bytesAfter b m l) (recordAfter r m (l .0))
   pub shows-it : (v : Values) (k : ℕ) → shown v k b m l ≡ shows v k r m (l .0)
 
-told-given : (x : Seen) (o : Outcome) → Frames x o → frameGives (told x) ≡ answerGiven (o .0 .answer)
+told-given : (x : InBytes) (o : Outcome) → Frames x o → frameGives (told x) ≡ answerGiven (o .0 .answer)
 told-given x o f = ap answerGiven (f .answer)
 
 reads-given : (x : ℕ × (List ℕ × List ℕ)) (e : Elapsed) → Reads x e → _≡_ {A = Given} (x .0, x .1 .1) (endsGiven e)
 reads-given x e f = ap₂ (λ (n : ℕ) (l : List ℕ). (n, l)) (f .number) (f .answers)
 
-outcome-same : (x : Seen) (o : Outcome) → Frames x o → AnswerFits (o .0 .answer) → outcomeOf (told x) ≡ o
+outcome-same : (x : InBytes) (o : Outcome) → Frames x o → AnswerFits (o .0 .answer) → outcomeOf (told x) ≡ (record { next = o .0 .next; answer = unrouted (o .0 .answer) }, o .1)
 outcome-same x o f g =
     ap (λ (r : Receiver). (record { next = r; answer = answerAt (answerBytes (x .0)) }, x .1 .1)) (f .next .reads)
     ∙ ap₂ (λ (a : Answer) (m : List ℕ). (record { next = o .0 .next; answer = answerAt (answerBytes a) }, m)) (f .answer) (f .store)
     ∙ ap (λ (a : Answer). (record { next = o .0 .next; answer = a }, o .1)) (answer-back (o .0 .answer) g)
 
-elapsed-same : (x : ℕ × (List ℕ × List ℕ)) (e : Elapsed) → Reads x e → keptAt (keptNumber (e .answer)) ≡ e .answer → length (e .ends) ≡ 8 → EndsFit (e .ends) → elapsedOf x ≡ e
+-- the route of a Multi-PG frame is nothing that a key is shown
+module _ (v : Values) (k : ℕ) (r : Receiver) (id : ℕ) (d : List ℕ) (n : Receiver) (m : List ℕ) where
+  seen-same : (a : Answer) → frameSeen v k r id d (record { next = n; answer = unrouted a }, m) ≡ frameSeen v k r id d (record { next = n; answer = a }, m)
+  unfolding frameSeen strays replyOf saysOf touches
+  seen-same (Groups route) = refl
+  seen-same (Opened j) = refl
+  seen-same (Taken t) = refl
+  seen-same (Grant c) = refl
+  seen-same (HandedOver x) = refl
+  seen-same (Aborted j) = refl
+  seen-same (Ended e) = refl
+  seen-same (RefusedRts j) = refl
+  seen-same (Refused x) = refl
+
+  elsewhere-same : (a : Answer) → frameElsewhere v k r id d (record { next = n; answer = unrouted a }, m) ≡ frameElsewhere v k r id d (record { next = n; answer = a }, m)
+  unfolding frameElsewhere frameSeen strays replyOf saysOf touches isBoundsRefusal
+  elsewhere-same (Groups route) = refl
+  elsewhere-same (Opened j) = refl
+  elsewhere-same (Taken t) = refl
+  elsewhere-same (Grant c) = refl
+  elsewhere-same (HandedOver x) = refl
+  elsewhere-same (Aborted j) = refl
+  elsewhere-same (Ended e) = refl
+  elsewhere-same (RefusedRts j) = refl
+  elsewhere-same (Refused x) = refl
+
+elapsed-same : (x : ℕ × (List ℕ × List ℕ)) (e : Elapsed) → Reads x e → acceptanceAt (acceptanceNumber (e .answer)) ≡ e .answer → length (e .ends) ≡ 8 → EndsFit (e .ends) → elapsedOf x ≡ e
 elapsed-same x e f n l g =
-    ap (λ (r : Receiver). record { next = r; answer = keptAt (x .0); ends = endsAt 8 (x .1 .1) }) (f .next .reads)
-    ∙ ap₂ (λ (i : ℕ) (z : List ℕ). record { next = e .next; answer = keptAt i; ends = endsAt 8 z }) (f .number) (f .answers)
-    ∙ ap₂ (λ (a : Kept) (z : List SlotEnd). record { next = e .next; answer = a; ends = z }) n
+    ap (λ (r : Receiver). record { next = r; answer = acceptanceAt (x .0); ends = endsAt 8 (x .1 .1) }) (f .next .reads)
+    ∙ ap₂ (λ (i : ℕ) (z : List ℕ). record { next = e .next; answer = acceptanceAt i; ends = endsAt 8 z }) (f .number) (f .answers)
+    ∙ ap₂ (λ (a : Acceptance) (z : List SlotEnd). record { next = e .next; answer = a; ends = z }) n
     (ap (λ (i : ℕ). endsAt i (endsBytes (e .ends))) (sym l) ∙ ends-back (e .ends) g)
 
-module _ (b m : List ℕ) (is : isRecord b ≡ true) (fit : RecordFits (recordAt b)) where
+module _ (b m : List ℕ) (is : isRecord b ≡ true) (fit : RecordFits (recordAt b)) (thin : Narrow (recordAt b)) where
   abbrev R : Receiver
   R = recordAt b
 
@@ -96,7 +125,9 @@ module _ (b m : List ℕ) (is : isRecord b ≡ true) (fit : RecordFits (recordAt
         given = ap frameGives e ∙ told-given (frameIn b id d m) (frameAll R id d m) g;
         store = ap (λ (x : ℕ × (List ℕ × (List ℕ × List ℕ))). x .1 .1 .0) e ∙ g .store;
         next = subst (λ (x : ℕ × (List ℕ × (List ℕ × List ℕ))). Holds (x .1 .0) (frameAll R id d m .0 .next)) (sym e) (g .next);
-        shows-it = λ v k. ap (frameSeen v k R id d) (ap outcomeOf e ∙ outcome-same (frameIn b id d m) (frameAll R id d m) g (frame-answers R fit id d m q));
+        shows-it = λ v k.
+            ap (frameSeen v k R id d) (ap outcomeOf e ∙ outcome-same (frameIn b id d m) (frameAll R id d m) g (frame-well R thin fit id d m q .answer))
+            ∙ seen-same v k R id d (frameAll R id d m .0 .next) (frameAll R id d m .1) (frameAll R id d m .0 .answer);
       }
   same-by (lent (clock t), a) (p, q) f =
       let g : Reads (readIn b t m a) (readingStep R t m) = reading-step b is t m a p f in
@@ -113,7 +144,9 @@ module _ (b m : List ℕ) (is : isRecord b ≡ true) (fit : RecordFits (recordAt
         given = ap frameGives e ∙ told-given (frameIn b id d o) (frameAll R id d o) g;
         store = refl;
         next = subst (λ (x : ℕ × (List ℕ × (List ℕ × List ℕ))). Holds (x .1 .0) (frameAll R id d o .0 .next)) (sym e) (g .next);
-        shows-it = λ v k. ap (frameElsewhere v k R id d) (ap outcomeOf e ∙ outcome-same (frameIn b id d o) (frameAll R id d o) g (frame-answers R fit id d o q));
+        shows-it = λ v k.
+            ap (frameElsewhere v k R id d) (ap outcomeOf e ∙ outcome-same (frameIn b id d o) (frameAll R id d o) g (frame-well R thin fit id d o q .answer))
+            ∙ elsewhere-same v k R id d (frameAll R id d o .0 .next) (frameAll R id d o .1) (frameAll R id d o .0 .answer);
       }
   same-by (elsewhere o z (clock t), a) (p, q) f =
       let g : Reads (readIn b t o a) (readingStep R t o) = reading-step b is t o a p f in
@@ -129,7 +162,7 @@ same-call r b m k h l p =
     let n : Fine (recordAfter r m (l .0)) (storeAfter r m (l .0)) = fine-after r m h l p in
     let f : RecordFits (recordAfter r m (l .0)) = fine-fits (recordAfter r m (l .0)) (storeAfter r m (l .0)) n in
     subst (λ (x : Receiver). Same x b m l) (k .reads)
-    (same-by b m (k .codes) (subst RecordFits (sym (k .reads)) (fine-fits r m h)) l p
+    (same-by b m (k .codes) (subst RecordFits (sym (k .reads)) (fine-fits r m h)) (subst Narrow (sym (k .reads)) (h .narrow)) l p
     (subst (λ (x : Receiver). RecordFits (recordAfter x m (l .0))) (sym (k .reads)) f))
 
 -- ---- a list of calls

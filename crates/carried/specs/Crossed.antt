@@ -4,15 +4,15 @@ use mathlib.Core.Path.{_≡_}
 use mathlib.Core.List.{List, [], _∷_, map}
 use lib.ListN.{length}
 use Rattle.receiver.specs.declared.Receiver.{Receiver}
-use Rattle.receiver.specs.declared.answer.Answer.{Answer}
-use Rattle.receiver.specs.declared.answer.Elapsed.{Elapsed}
+use Rattle.answer.specs.declared.Answer.{Answer}
+use Rattle.receiver.specs.Calls.{Elapsed}
 use Rattle.receiver.specs.Calls.{frameStep, readingStep}
-use Rattle.receiver.specs.Answers.{answerNumber}
+use Rattle.answer.specs.Answers.{answerNumber, acceptanceNumber}
 use Rattle.record_bytes.specs.Kept.{Bytes}
 use Rattle.answer_bytes.specs.Answers.{answerBytes}
 use Rattle.answer_bytes.specs.Ends.{endsBytes}
 use Rattle.dwaebinam.specs.Calls.{framedIn}
-use Rattle.dwaebinam.specs.Reading.{keptNumber, readIn}
+use Rattle.dwaebinam.specs.Reading.{readIn}
 use Rattle.isolation.specs.World.{frame, clock, Call, lent, elsewhere}
 use Rattle.isolation.specs.Observe.{recordAfter, storeAfter}
 
@@ -82,7 +82,7 @@ abbrev pub answerGiven : Answer → Given
 answerGiven x = (answerNumber x, answerBytes x)
 
 abbrev pub endsGiven : Elapsed → Given
-endsGiven x = (keptNumber (x .answer), endsBytes (x .ends))
+endsGiven x = (acceptanceNumber (x .answer), endsBytes (x .ends))
 
 unfoldable pub answers : Receiver → List ℕ → Call → Given
 answers r m (lent (frame id d)) = answerGiven (frameStep r id d m .answer)

@@ -3,13 +3,13 @@
 use Prim.Native.Nat.{_<_}
 use mathlib.Core.List.{List, [], _∷_}
 use Rattle.slots.specs.declared.Slot.{Slot}
-use Rattle.slots.specs.declared.SlotState.{SlotState}
-use Rattle.slots.specs.declared.SlotState.the-variants.{Free, Open}
+use Rattle.session.specs.declared.State.{State}
+use Rattle.session.specs.declared.State.the-variants.{Closed, Open}
 use Rattle.receiver.specs.declared.Receiver.{Receiver}
 
-abbrev pub StateNarrow : SlotState → Type 0
-StateNarrow Free = Unit {0}
-StateNarrow (Open s) = (s .granted .0 < 4294967296) × (s .mark < 4294967296)
+abbrev pub StateNarrow : State → Type 0
+StateNarrow Closed = Unit {0}
+StateNarrow (Open s) = (s .progress .granted .0 < 4294967296) × (s .progress .mark < 4294967296)
 
 abbrev pub SlotsNarrow : List Slot → Type 0
 SlotsNarrow [] = Unit {0}

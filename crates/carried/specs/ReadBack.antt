@@ -6,15 +6,16 @@ use lib.Dec.{eqb}
 use lib.ListN.{getD, take, drop}
 use Rattle.frame.specs.declared.refusal.Refusal.{Refusal}
 use Rattle.frame.specs.declared.refusal.Refusal.the-variants.{FrameLength, IdentifierRange, NotTaken, HeaderCut, DataCut, ServiceType, TrailerFormat, PgnForm, TransferLength, NotReceivers, AnnouncementForm, TooLong, Assurance, KeyOpen, SlotsFull, KeyNotOpen, FormatIndicator, AlreadyTaken, OutOfSequence, SegmentCut, StatusMismatch, Silence, OutOfBounds, PackRequest}
+use Rattle.frame.specs.declared.judge.Route.{Route}
 use Rattle.transport.specs.declared.Key.{Key}
-use Rattle.receiver.specs.declared.answer.Ending.{Ending}
-use Rattle.receiver.specs.declared.answer.Answer.{Answer}
-use Rattle.receiver.specs.declared.answer.Answer.the-variants.{Groups, Opened, Taken, Grant, HandedOver, Aborted, Ended, RefusedRts, Refused}
-use Rattle.receiver.specs.declared.answer.End.{End}
-use Rattle.receiver.specs.declared.answer.End.the-variants as end
-use Rattle.receiver.specs.declared.answer.SlotEnd.{SlotEnd}
-use Rattle.receiver.specs.declared.answer.Kept.{Kept}
-use Rattle.receiver.specs.declared.answer.Kept.the-variants as kept
+use Rattle.answer.specs.declared.Ending.{Ending}
+use Rattle.answer.specs.declared.Answer.{Answer}
+use Rattle.answer.specs.declared.Answer.the-variants.{Groups, Opened, Taken, Grant, HandedOver, Aborted, Ended, RefusedRts, Refused}
+use Rattle.answer.specs.declared.End.{End}
+use Rattle.answer.specs.declared.End.the-variants as end
+use Rattle.answer.specs.declared.SlotEnd.{SlotEnd}
+use Rattle.answer.specs.declared.Acceptance.{Acceptance}
+use Rattle.answer.specs.declared.Acceptance.the-variants as acceptance
 use Rattle.record_bytes.specs.Layout.{low32, kindAt}
 
 abbrev pub firstOf : ℕ → ℕ → List Refusal → Refusal
@@ -33,9 +34,24 @@ keyIn p = record { sa = record { 0 = getD p 2 0 }; da = record { 0 = getD p 3 0 
 abbrev pub endingIn : List ℕ → Ending
 endingIn p = record { key = keyIn p; kind = kindAt (getD p 5 0); refusal = refusalAt (getD p 0 0); pgn = low32 p 7 }
 
+-- the bytes of an answer do not say where a Multi-PG frame came from and went: who lent the frame has its identifier
+abbrev pub noRoute : Route
+noRoute = record { sa = record { 0 = 0 }; da = record { 0 = 0 } }
+
+abbrev pub unrouted : Answer → Answer
+unrouted (Groups route) = Groups noRoute
+unrouted (Opened k) = Opened k
+unrouted (Taken t) = Taken t
+unrouted (Grant c) = Grant c
+unrouted (HandedOver x) = HandedOver x
+unrouted (Aborted k) = Aborted k
+unrouted (Ended e) = Ended e
+unrouted (RefusedRts j) = RefusedRts j
+unrouted (Refused n) = Refused n
+
 abbrev pub answerBy : ℕ → List ℕ → Answer
 answerBy code p =
-    cond (eqb code 1) Groups
+    cond (eqb code 1) (Groups noRoute)
     (cond (eqb code 2) (Opened (keyIn p))
     (cond (eqb code 3) (Taken (record { key = keyIn p; number = record { 0 = low32 p 15 } }))
     (cond (eqb code 4) (Grant (record { key = keyIn p; next = record { 0 = low32 p 15 }; count = getD p 6 0; pgn = low32 p 7 }))
@@ -59,5 +75,5 @@ abbrev pub endsAt : ℕ → List ℕ → List SlotEnd
 endsAt zero b = []
 endsAt (suc n) b = record { end = endAt (take 36 b) } ∷ endsAt n (drop 36 b)
 
-abbrev pub keptAt : ℕ → Kept
-keptAt n = cond (eqb n 0) kept.Kept (kept.Refused (refusalAt n))
+abbrev pub acceptanceAt : ℕ → Acceptance
+acceptanceAt n = cond (eqb n 0) acceptance.Accepted (acceptance.Refused (refusalAt n))

@@ -2,7 +2,7 @@
 -- answers as they are read off the bytes given, the records that its buffer holds, and the store as the calls leave it.
 use Prim.Native.Nat.{ℕ}
 use mathlib.Core.List.{List, [], _∷_, _++_}
-use Rattle.receiver.specs.declared.answer.Elapsed.{Elapsed}
+use Rattle.receiver.specs.Calls.{Elapsed}
 use Rattle.receiver.specs.Calls.{Outcome}
 use Rattle.record_bytes.specs.Layout.{recordAt}
 use Rattle.dwaebinam.specs.Calls.{framedIn}
@@ -12,7 +12,7 @@ use Rattle.isolation.specs.Rules.{Values}
 use Rattle.isolation.specs.World.{frame, clock, lent, elsewhere}
 use Rattle.isolation.specs.Observe.{frameSeen, frameElsewhere, readingSeen, readingElsewhere}
 use Rattle.carried.specs.Crossed.{Lending, bytesAfter, storeLeft}
-use Rattle.carried.specs.ReadBack.{answerAt, endsAt, keptAt}
+use Rattle.carried.specs.ReadBack.{answerAt, endsAt, acceptanceAt}
 
 -- a frame: number, record, store and answer
 abbrev pub outcomeOf : ℕ × (List ℕ × (List ℕ × List ℕ)) → Outcome
@@ -20,7 +20,7 @@ outcomeOf x = (record { next = recordAt (x .1 .0); answer = answerAt (x .1 .1 .1
 
 -- a reading: number, record and answers
 abbrev pub elapsedOf : ℕ × (List ℕ × List ℕ) → Elapsed
-elapsedOf x = record { next = recordAt (x .1 .0); answer = keptAt (x .0); ends = endsAt 8 (x .1 .1) }
+elapsedOf x = record { next = recordAt (x .1 .0); answer = acceptanceAt (x .0); ends = endsAt 8 (x .1 .1) }
 
 unfoldable pub shown : Values → ℕ → List ℕ → List ℕ → Lending → List rules.Seen
 shown v k b m (lent (frame id d), a) = frameSeen v k (recordAt b) id d (outcomeOf (framedIn b id d m a))

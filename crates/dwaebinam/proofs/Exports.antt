@@ -8,31 +8,32 @@ use lib.ListN.{length}
 use borrow.Author.Tests.{eq-eqb}
 use Rattle.laws.specs.Choice.{else}
 use Rattle.receiver.specs.declared.Receiver.{Receiver}
-use Rattle.receiver.specs.declared.answer.Answer.{Answer}
+use Rattle.answer.specs.declared.Answer.{Answer}
 use Rattle.receiver.specs.Bounds.{openedWith}
-use Rattle.receiver.specs.Answers.{answerNumber}
+use Rattle.answer.specs.Answers.{answerNumber}
+use Rattle.record_bytes.specs.Places.{recordLength}
 use Rattle.record_bytes.specs.Layout.{recordBytes, storedIn}
-use Rattle.in_place.specs.Seen.{Seen, frameIn}
+use Rattle.engine.specs.InBytes.{InBytes, frameIn}
 use Rattle.answer_bytes.specs.Answers.{answerBytes}
 use Rattle.dwaebinam.specs.Calls.{openingNumber, openedIn, told, framedIn}
 
-stored-whole : (r : Receiver) (d o : List ℕ) (w : Bool) → length d ≡ 249 → (w, o) ≡ storedIn r d → o ≡ recordBytes r
+stored-whole : (r : Receiver) (d o : List ℕ) (w : Bool) → length d ≡ recordLength → (w, o) ≡ storedIn r d → o ≡ recordBytes r
 unfolding storedIn
 stored-whole r d o w long e =
     let whole : Bool × List ℕ = (true, recordBytes r) in
-    let p : whole ≡ storedIn r d = else (not (eqb (length d) 249)) _ _ _ (ap not (eq-eqb _ _ long)) refl in
+    let p : whole ≡ storedIn r d = else (not (eqb (length d) recordLength)) _ _ _ (ap not (eq-eqb _ _ long)) refl in
     ap (λ (x : Bool × List ℕ). x .1) (e ∙ sym p)
 
 module _ (own limit reading : ℕ) (d : List ℕ) where
-  pub opened-put : (w : Bool) (R : Receiver) (n : ℕ) (o : List ℕ) → length d ≡ 249 → R ≡ openedWith (record { 0 = own }) limit reading
-      → (w, o) ≡ storedIn R d → n ≡ openingNumber (record { 0 = own }) limit → (n, o) ≡ openedIn own limit reading d
+  pub opened-put : (w : Bool) (R : Receiver) (n : ℕ) (o : List ℕ) → length d ≡ recordLength → R ≡ openedWith (record { 0 = own }) limit reading
+      → (w, o) ≡ storedIn R d → n ≡ openingNumber (record { 0 = own }) limit reading → (n, o) ≡ openedIn own limit reading d
   unfolding openedIn
   opened-put w R n o long eR e en =
-      else (not (eqb (length d) 249)) _ _ _ (ap not (eq-eqb _ _ long))
+      else (not (eqb (length d) recordLength)) _ _ _ (ap not (eq-eqb _ _ long))
       (ap (λ (x : ℕ). (x, o)) en
-      ∙ ap (λ (l : List ℕ). (openingNumber (record { 0 = own }) limit, l)) (stored-whole R d o w long e ∙ ap recordBytes eR))
+      ∙ ap (λ (l : List ℕ). (openingNumber (record { 0 = own }) limit reading, l)) (stored-whole R d o w long e ∙ ap recordBytes eR))
 
-pub framed-put : (b : List ℕ) (id : ℕ) (d m a : List ℕ) (x : Answer) (n : ℕ) (ob om oa : List ℕ) → length a ≡ 36 → _≡_ {A = Seen} (x, (ob, om)) (frameIn b id d m) → oa ≡ answerBytes x → n ≡ answerNumber x
+pub framed-put : (b : List ℕ) (id : ℕ) (d m a : List ℕ) (x : Answer) (n : ℕ) (ob om oa : List ℕ) → length a ≡ 36 → _≡_ {A = InBytes} (x, (ob, om)) (frameIn b id d m) → oa ≡ answerBytes x → n ≡ answerNumber x
     → _≡_ {A = ℕ × (List ℕ × (List ℕ × List ℕ))} (n, (ob, (om, oa))) (framedIn b id d m a)
 unfolding framedIn
 framed-put b id d m a x n ob om oa long e ea en =

@@ -4,10 +4,11 @@ use native.Mathlib.Omega.{arith}
 use mathlib.Core.Path.{_≡_, refl, ap, _∙_}
 use mathlib.Core.List.{List, _++_}
 use lib.Dec.{ltb}
-use lib.ListN.{length, take, drop}
-use lib.Seq.{paste, take-all}
+use lib.ListN.{length, drop}
+use lib.Seq.{paste}
 use borrow.Author.Tests.{lt-ltb, le-ltb}
 use Rattle.laws.specs.Choice.{then, else}
+use Rattle.laws.specs.Pastes.{paste-whole}
 use Rattle.dwaebinam.specs.Message.{frontOf}
 
 module _ (S s out : List ℕ) (e : s ≡ S) where
@@ -18,8 +19,7 @@ module _ (S s out : List ℕ) (e : s ≡ S) where
   put-front =
       let n : ℕ = length s in
       let z : 0 + n ≡ n = omega arith in
-      ap (λ (k : ℕ). take 0 out ++ take n s ++ drop k out) z
-      ∙ ap (λ (l : List ℕ). l ++ drop n out) (take-all n s (omega arith))
+      paste-whole out 0 s ∙ ap (λ (k : ℕ). s ++ drop k out) z
 
   pub front-put : (o : List ℕ) → length s ≤ length out → o ≡ paste out 0 s (length s) → (length s, o) ≡ frontOf S out
   front-put o h p =

@@ -7,28 +7,29 @@ use lib.ListN.{length}
 use Rattle.frame.specs.declared.length.Least.{Least}
 use Rattle.frame.specs.declared.length.Least.the-variants.{Length, Nothing}
 use Rattle.frame.specs.declared.Address.{Address}
-use Rattle.slots.specs.Bounds.{openingOk}
-use Rattle.receiver.specs.Bounds.{openedWith}
-use Rattle.receiver.specs.Answers.{answerNumber}
+use Rattle.receiver.specs.Bounds.{opened, openedWith}
+use Rattle.answer.specs.Answers.{answerNumber, acceptanceNumber}
+use Rattle.record_bytes.specs.Places.{recordLength}
 use Rattle.record_bytes.specs.Layout.{recordBytes}
-use Rattle.in_place.specs.Seen.{Seen, frameIn}
+use Rattle.engine.specs.InBytes.{InBytes, frameIn}
 use Rattle.answer_bytes.specs.Answers.{answerBytes}
 
 abbrev pub leastOr : Least → ℕ
 leastOr (Length n) = n
 leastOr Nothing = 255
 
-abbrev pub openingNumber : Address → ℕ → ℕ
-openingNumber own limit = cond (openingOk own limit) 0 23
+-- the number of an opening's answer
+abbrev pub openingNumber : Address → ℕ → ℕ → ℕ
+openingNumber own limit reading = acceptanceNumber (opened own limit reading .answer)
 
 -- The record of a refused opening is out of bounds, so every call refuses it. A buffer of another length stays as it was.
 unfoldable pub openedIn : ℕ → ℕ → ℕ → List ℕ → ℕ × List ℕ
 openedIn own limit reading d =
-    cond (not (eqb (length d) 249)) (23, d)
-    (openingNumber (record { 0 = own }) limit, recordBytes (openedWith (record { 0 = own }) limit reading))
+    cond (not (eqb (length d) recordLength)) (23, d)
+    (openingNumber (record { 0 = own }) limit reading, recordBytes (openedWith (record { 0 = own }) limit reading))
 
 -- what a call in place answers, as number and bytes
-abbrev pub told : Seen → ℕ × (List ℕ × (List ℕ × List ℕ))
+abbrev pub told : InBytes → ℕ × (List ℕ × (List ℕ × List ℕ))
 told x = (answerNumber (x .0), (x .1 .0, (x .1 .1, answerBytes (x .0))))
 
 -- 23 for room for an answer of another length: all stays as it was

@@ -9,11 +9,11 @@ use lib.ListN.{length, getD, drop, length-drop}
 use lib.Seq.{length-take-le}
 use borrow.Author.Tests.{eq-eqb, le-ltb}
 use Rattle.laws.specs.Choice.{else}
-use Rattle.slots.specs.Places.{messageCut}
-use Rattle.receiver.specs.declared.answer.Message.{Message}
-use Rattle.receiver.specs.declared.answer.Answer.the-variants.{HandedOver}
-use Rattle.receiver.specs.Answers.{messageBytes}
-use Rattle.receiver.specs.Handed.{message-lies}
+use Rattle.answer.specs.Places.{messageCut}
+use Rattle.answer.specs.declared.Message.{Message}
+use Rattle.answer.specs.declared.Answer.the-variants.{HandedOver}
+use Rattle.answer.specs.Answers.{messageBytes}
+use Rattle.answer.specs.Lies.{message-lies}
 use Rattle.record_bytes.specs.Layout.{low32}
 use Rattle.record_bytes.specs.RoundTrip.{low32-read-back}
 use Rattle.answer_bytes.specs.Answers.{fieldsBytes, answerBytes}

@@ -2,61 +2,49 @@
 use Prim.Native.Nat.{ℕ, _*_, _<_}
 use native.Mathlib.Omega.{arith}
 use mathlib.Core.Path.{_≡_, refl, sym, ap, _∙_}
-use mathlib.Core.Bool.{true, false, cond, not}
+use mathlib.Core.Bool.{false, cond, not}
 use mathlib.Core.List.{List, [], _∷_, map}
 use lib.Dec.{eqb}
 use lib.ListN.{length, getD, take, drop, replicate, length-map, List·getD-map}
 use borrow.Author.Tests.{eq-eqb}
 use Rattle.laws.specs.Choice.{else}
-use Rattle.frame.specs.Refusals.{numberOf}
 use Rattle.frame.specs.declared.refusal.Refusal.the-variants.{Silence, OutOfBounds}
 use Rattle.session.specs.declared.Session.{Session}
+use Rattle.session.specs.Decisions.{endingOf}
 use Rattle.slots.specs.declared.Slot.{Slot}
 use Rattle.slots.specs.Slots.{freeSlot}
 use Rattle.receiver.specs.declared.Receiver.{Receiver}
-use Rattle.receiver.specs.declared.answer.End.the-variants as end
-use Rattle.receiver.specs.declared.answer.Kept.{Kept}
-use Rattle.receiver.specs.declared.answer.Kept.the-variants as kept
-use Rattle.receiver.specs.declared.answer.SlotEnd.{SlotEnd}
-use Rattle.receiver.specs.declared.answer.Elapsed.{Elapsed}
-use Rattle.receiver.specs.Calls.{isReady, endingOf, endOf, slotEnd, stays, readingKept, readingStep}
-use Rattle.record_bytes.specs.Layout.{isRecord, recordAt}
-use Rattle.record_bytes.specs.Keeping.{putIn}
-use Rattle.record_bytes.specs.Kept.{Bytes, keep}
+use Rattle.answer.specs.declared.End.the-variants as end
+use Rattle.answer.specs.Answers.{acceptanceNumber}
+use Rattle.answer.specs.declared.Acceptance.the-variants as acceptance
+use Rattle.answer.specs.declared.SlotEnd.{SlotEnd}
+use Rattle.receiver.specs.Calls.{endOf, slotEnd, stays, readingKept}
+use Rattle.lent_record.specs.Ready.{readyIn}
+use Rattle.engine.specs.declared.reading.ReadingAnswer.{ReadingAnswer}
+use Rattle.engine.specs.Elapsing.{readingIn}
 use Rattle.answer_bytes.specs.Answers.{fieldsBytes}
 use Rattle.answer_bytes.specs.Ends.{endBytes, endsBytes}
 use Rattle.answer_bytes.specs.EndLaws.{end-place, none-ends}
 
-abbrev pub keptNumber : Kept → ℕ
-keptNumber kept.Kept = 0
-keptNumber (kept.Refused n) = numberOf n
+-- what a reading in place answers, as number and bytes: an answer for each slot
+abbrev pub readBy : ReadingAnswer × List ℕ → ℕ × (List ℕ × List ℕ)
+readBy x = (acceptanceNumber (x .0 .answer), (x .1, endsBytes (x .0 .ends)))
 
--- what a reading comes to: the number, the record over its bytes, and an answer for each slot
-abbrev pub readBy : List ℕ → Elapsed → ℕ × (List ℕ × List ℕ)
-readBy b x = (keptNumber (x .answer), (putIn b (x .next), endsBytes (x .ends)))
-
--- 23 with all as it was for room of another length, and with zeros for answers where the buffer is no record
+-- 23 for room of another length: all stays as it was
 unfoldable pub readIn : List ℕ → ℕ → List ℕ → List ℕ → ℕ × (List ℕ × List ℕ)
-readIn b t m a =
-    cond (not (eqb (length a) 288)) (23, (b, a))
-    (cond (not (isRecord b)) (23, (b, replicate 288 0)) (readBy b (readingStep (recordAt b) t m)))
+readIn b t m a = cond (not (eqb (length a) 288)) (23, (b, a)) (readBy (readingIn b t m))
 
 -- ---- a refused reading, and an ending
 
--- 23 where the record is out of bounds or the store has another length: the record keeps every byte, and no slot has an answer
-pub reading-refused : (b a m : List ℕ) (t : ℕ) → Bytes b → isRecord b ≡ true → length a ≡ 288 → isReady (recordAt b) m ≡ false → readIn b t m a ≡ (23, (b, replicate 288 0))
-unfolding readIn readingStep
-reading-refused b a m t h r room e =
-    let R : Receiver = recordAt b in
-    let none : Elapsed = record { next = R; answer = kept.Refused OutOfBounds; ends = replicate 8 stays } in
-    let x : none ≡ readingStep R t m = else (isReady R m) _ _ _ e refl in
+-- 23 where the buffer is no record in bounds or the store has another length: the buffer keeps every byte, and no slot has an answer
+pub reading-refused : (b a m : List ℕ) (t : ℕ) → length a ≡ 288 → readyIn b (length m) ≡ false → readIn b t m a ≡ (23, (b, replicate 288 0))
+unfolding readIn readingIn
+reading-refused b a m t room e =
+    let none : ReadingAnswer × List ℕ = (record { answer = acceptance.Refused OutOfBounds; ends = replicate 8 stays }, b) in
+    let x : none ≡ readingIn b t m = else (readyIn b (length m)) _ _ _ e refl in
     sym
     (else (not (eqb (length a) 288)) _ _ _ (ap not (eq-eqb _ _ room))
-    (else (not (isRecord b)) _ _ _ (ap not r)
-    (sym
-    (ap (readBy b) (sym x)
-    ∙ ap (λ (l : List ℕ). (23, (l, endsBytes (replicate 8 stays)))) (keep b h r)
-    ∙ ap (λ (l : List ℕ). (23, (b, l))) none-ends))))
+    (sym (ap readBy (sym x) ∙ ap (λ (l : List ℕ). (23, (b, l))) none-ends)))
 
 -- the answer of a session that ended by silence: number 22, and the code for an end
 pub silence-says : (s : Session) → take 2 (endBytes (end.Ended (endingOf s Silence))) ≡ 22 ∷ 7 ∷ []

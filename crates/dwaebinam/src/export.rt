@@ -1,18 +1,18 @@
 // The calls that a program in C links: numbers and lent bytes go in and out (include/dwaebinam.h).
 ghost use mathlib.Core.Path.{_≡_};
 ghost use Rattle.frame.specs.Lengths.{leastLength};
-ghost use Rattle.dwaebinam.specs.Calls.{leastOr, openingNumber, openedIn, framedIn};
-use answer_bytes::answer::ANSWER_BYTES;
-use answer_bytes::answer::write_answer;
+ghost use Rattle.dwaebinam.specs.Calls.{leastOr, openedIn, framedIn};
+use answer::acceptance_number;
+use answer::number;
+use answer_bytes::ANSWER_BYTES;
+use answer_bytes::write_answer;
+use engine::call::take_frame;
 use frame::Address;
 use frame::length::Least;
 use frame::length::least_length;
-use in_place::call::take_frame;
 use receiver::Receiver;
-use receiver::answer::number;
-use record_bytes::layout::RECORD_BYTES;
 use record_bytes::layout::write_record;
-use slots::bounds::opening_ok;
+use record_bytes::places::RECORD_BYTES;
 
 // The least length of a frame that holds need bytes; 255 for more than 64.
 #[no_mangle]
@@ -23,16 +23,6 @@ pub extern "C" fn dwb_least_length(need: usize) -> usize
         Least::Length(n) => n,
         Least::Nothing => 255,
     }
-}
-
-// 0, or 23 for opening values out of bounds.
-fn opening_number(own: Address, limit: u32) -> u8
-    ensures { λ r. ⌜ r ≡ openingNumber own limit ⌝ }
-{
-    if opening_ok(own, limit) {
-        return 0;
-    }
-    23
 }
 
 // Opens a receiver in a buffer of RECORD_BYTES. An opening that is refused with 23 gives a record that every call refuses; a buffer of
@@ -46,8 +36,9 @@ pub extern "C" fn dwb_open(buffer: &mut [u8], own: u8, limit: u32, reading: u32)
     }
     let opened = Receiver::open(Address(own), limit, reading);
     let receiver = opened.receiver;
+    let acceptance = opened.answer;
     write_record(receiver, buffer);
-    opening_number(Address(own), limit)
+    acceptance_number(acceptance)
 }
 
 // Takes one frame: the answer's number, with the answer written, and the record and the store as the answer says. 23 with all as it was

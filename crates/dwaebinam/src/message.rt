@@ -1,12 +1,12 @@
 // A message that is handed over, for a program in C (include/dwaebinam.h).
 ghost use mathlib.Core.Path.{_≡_};
 ghost use Rattle.dwaebinam.specs.Message.{messageIn, copiedIn};
-use answer_bytes::answer::ANSWER_BYTES;
+use answer::place::Place;
+use answer::place::bytes_of;
+use answer_bytes::ANSWER_BYTES;
 use frame::ByteCount;
-use record_bytes::layout::copy;
+use octets::copy;
 use record_bytes::word::word_at;
-use slots::place::Place;
-use slots::place::bytes_of;
 
 // The code of an answer that hands a message over.
 pub const HANDED_OVER: u8 = 5;
@@ -44,6 +44,6 @@ pub extern "C" fn dwb_message(answer: &[u8], store: &[u8], out: &mut [u8]) -> us
     if out.len() < n {
         return 0;
     }
-    copy(out, 0, bytes, n);
+    copy(out, 0, bytes, 0, n);
     n
 }

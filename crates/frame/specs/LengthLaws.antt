@@ -2,10 +2,13 @@
 use Prim.Native.Nat.{ℕ, zero, suc, _≤_, _<_}
 use native.Mathlib.Omega.{arith}
 use mathlib.Core.Path.{_≡_, refl, sym}
-use mathlib.Core.Bool.{Bool, true, false, cond, _&&_, _||_, false≢true}
+use mathlib.Core.Bool.{Bool, true, false, cond, _&&_, _||_, false≢true, or-assoc, or-false}
+use mathlib.Mathlib.Data.Bool.Basic.{or-inr}
+use mathlib.Core.Logic.{⊎-elim}
 use mathlib.Core.List.{List, [], _∷_}
 use lib.Dec.{eqb, leb}
 use borrow.Author.Tests.{eqb-true, leb-true, leb-false, eq-eqb, ne-eqb, lt-leb}
+use Rattle.laws.specs.Bools.{or-either}
 use Rattle.laws.specs.Choice.{or-stop, each-of}
 use Rattle.frame.specs.Lengths.{lengths, isLength, firstHolding, leastLength}
 use Rattle.frame.specs.declared.length.Least.{Least}
@@ -26,20 +29,12 @@ pub record LeastOf (ns : List ℕ) (need n : ℕ) : Type 0 where
   pub member : among n ns ≡ true
   pub least : (m : ℕ) → among m ns ≡ true → need ≤ m → n ≤ m
 
-or-cases : {X : Type 0} (a b : Bool) → (a || b) ≡ true → (a ≡ true → X) → (b ≡ true → X) → X
-or-cases true b e f g = f refl
-or-cases false b e f g = g e
-
-or-right : (a b : Bool) → b ≡ true → (a || b) ≡ true
-or-right true b e = refl
-or-right false b e = e
-
 rising-low : (lo : ℕ) (ns : List ℕ) (m : ℕ) → rising lo ns ≡ true → among m ns ≡ true → lo ≤ m
 rising-low lo [] m r a = absurd (false≢true a)
 rising-low lo (n ∷ ns) m r a =
     let b = each-of (leb lo n ∷ rising n ns ∷ []) r in
     let h : lo ≤ n = leb-true lo n (b .0) in
-    or-cases (eqb m n) (among m ns) a (λ e. let q : m ≡ n = eqb-true m n e in omega arith) (λ e. let q : n ≤ m = rising-low n ns m (b .1 .0) e in omega arith)
+    ⊎-elim (λ e. let q : m ≡ n = eqb-true m n e in omega arith) (λ e. let q : n ≤ m = rising-low n ns m (b .1 .0) e in omega arith) (or-either (eqb m n) (among m ns) a)
 
 none-here : (n : ℕ) → _≡_ {A = Least} Nothing (Length n) → ⊥
 none-here n e = let z : _≡_ {A = ℕ} 0 1 = cc in omega arith
@@ -54,14 +49,14 @@ first-least lo need (x ∷ xs) n r e = go (leb need x) refl e (λ f. first-least
       record {
         holds = omega (arith, leb-true need x k);
         member = sym (or-stop (eqb n x) (among n xs) (eq-eqb n x (sym q)));
-        least = λ m a h. or-cases (eqb m x) (among m xs) a (λ z. omega (arith, eqb-true m x z)) (λ z. omega (arith, rising-low x xs m (each-of (leb lo x ∷ rising x xs ∷ []) r .1 .0) z));
+        least = λ m a h. ⊎-elim (λ z. omega (arith, eqb-true m x z)) (λ z. omega (arith, rising-low x xs m (each-of (leb lo x ∷ rising x xs ∷ []) r .1 .0) z)) (or-either (eqb m x) (among m xs) a);
       }
   go false k f next =
       let l : LeastOf xs need n = next f in
       record {
         holds = l .holds;
-        member = or-right (eqb n x) (among n xs) (l .member);
-        least = λ m a h. or-cases (eqb m x) (among m xs) a (λ z. absurd (omega (arith, eqb-true m x z, leb-false need x k))) (λ z. l .least m z h);
+        member = or-inr (eqb n x) (among n xs) (l .member);
+        least = λ m a h. ⊎-elim (λ z. absurd (omega (arith, eqb-true m x z, leb-false need x k))) (λ z. l .least m z h) (or-either (eqb m x) (among m xs) a);
       }
 
 -- one is found where one of the list holds the need
@@ -70,7 +65,7 @@ first-found need m [] a h e = false≢true a
 first-found need m (x ∷ xs) a h e = go (leb need x) refl e (λ z f. first-found need m xs z h f) where
   go : (t : Bool) → leb need x ≡ t → cond t (Length x) (firstHolding need xs) ≡ Nothing → (among m xs ≡ true → firstHolding need xs ≡ Nothing → ⊥) → ⊥
   go true k f next = let z : _≡_ {A = ℕ} 0 1 = cc in omega arith
-  go false k f next = or-cases (eqb m x) (among m xs) a (λ z. omega (arith, eqb-true m x z, leb-false need x k)) (λ z. next z f)
+  go false k f next = ⊎-elim (λ z. omega (arith, eqb-true m x z, leb-false need x k)) (λ z. next z f) (or-either (eqb m x) (among m xs) a)
 
 pub least-length : (need n : ℕ) → leastLength need ≡ Length n → LeastOf lengths need n
 least-length need n e = first-least 0 need lengths n refl e
@@ -79,14 +74,6 @@ pub length-found : (need : ℕ) → need ≤ 64 → leastLength need ≡ Nothing
 length-found need h e = first-found need 64 lengths refl h e
 
 -- ---- the test for a length
-
-or-assoc : (a b c : Bool) → (a || b || c) ≡ (a || (b || c))
-or-assoc true b c = refl
-or-assoc false b c = refl
-
-or-none : (a : Bool) → (a || false) ≡ a
-or-none true = refl
-or-none false = refl
 
 module _ (m : ℕ) (h : 8 < m) where
   not-small : (j : ℕ) → j ≤ 8 → eqb m j ≡ false
@@ -106,7 +93,7 @@ module _ (m : ℕ) (h : 8 < m) where
         not-small 7 (omega arith),
         not-small 8 (omega arith),
         or-assoc,
-        or-none,
+        or-false,
       )
 
 pub is-among : (m : ℕ) → isLength m ≡ among m lengths

@@ -6,7 +6,7 @@ use mathlib.Core.List.{List, [], _∷_}
 use lib.ListN.{length, replicate, length-replicate}
 use Rattle.frame.specs.declared.Address.{Address}
 use Rattle.receiver.specs.declared.Receiver.{Receiver}
-use Rattle.receiver.specs.declared.answer.Opening.the-variants.{Accepted}
+use Rattle.answer.specs.declared.Acceptance.the-variants.{Accepted}
 use Rattle.receiver.specs.Bounds.{inBounds, opened, openedWith}
 use Rattle.isolation.specs.OwnFrames.{keyAt}
 use Rattle.isolation.specs.Rules.{Values, fresh, outputs}
@@ -15,9 +15,9 @@ use Rattle.isolation.specs.Observe.{recordAfter, storeAfter, observed, r
 use Rattle.isolation.specs.Stands.{valuesOf, standsFor}
 use Rattle.isolation.proofs.InBounds.{sim-bounds, bounds-sim}
 use Rattle.transport.specs.declared.Key.{Key}
-use Rattle.receiver.specs.declared.answer.Kept.the-variants as kept
+use Rattle.answer.specs.declared.Acceptance.the-variants as acceptance
 use Rattle.receiver.specs.Calls.{frameStep, readingStep}
-use Rattle.receiver.specs.Answers.{answerNumber}
+use Rattle.answer.specs.Answers.{answerNumber}
 use Rattle.isolation.proofs.Refused.{never-23, reading-never-23}
 use Rattle.isolation.proofs.Slots.{key-of}
 use Rattle.isolation.proofs.Run.{keeps, run, open-sim, accepted-ok}
@@ -101,7 +101,7 @@ over-in-bounds r m e eight whole (c ∷ cs) = next (stays-in-bounds r m e eight 
 pub never-refuses-its-own : (own : Address) (limit first : ℕ) → opened own limit first .answer ≡ Accepted → (m : List ℕ) → length m ≡ 32768 → (cs : List Call)
     → let r : Receiver = recordOver (opened own limit first .receiver) m cs in
     let s : List ℕ = storeOver (opened own limit first .receiver) m cs in
-    ((id : ℕ) (d : List ℕ) → answerNumber (frameStep r id d s .answer) ≡ 23 → ⊥) × ((t : ℕ) → readingStep r t s .answer ≡ kept.Kept)
+    ((id : ℕ) (d : List ℕ) → answerNumber (frameStep r id d s .answer) ≡ 23 → ⊥) × ((t : ℕ) → readingStep r t s .answer ≡ acceptance.Accepted)
 never-refuses-its-own own limit first g m h cs =
     let a = over-in-bounds (opened own limit first .receiver) m (opens-in-bounds own limit first g) (eight-slots own limit first) h cs in
     let r : Receiver = recordOver (opened own limit first .receiver) m cs in

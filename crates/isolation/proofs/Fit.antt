@@ -1,26 +1,28 @@
--- How a call of the receiver and the rules of one key keep step.
+-- How a call of the receiver and the rules of one key keep step: first as one session decides, then with its change applied to its slot.
 use Prim.Native.Nat.{ℕ, _+_, _<_}
-use mathlib.Core.Path.{_≡_, refl}
-use mathlib.Core.Logic.{_⊎_}
+use mathlib.Core.Path.{_≡_, refl, sym}
+use mathlib.Core.Logic.{_⊎_, inl, inr}
 use mathlib.Core.Bool.{Bool, true, false, cond}
 use mathlib.Core.Option.{Option, none, some}
 use mathlib.Core.List.{List}
+use native.Mathlib.Omega.{arith}
 use lib.ListN.{length}
-use Rattle.frame.specs.declared.refusal.Refusal.{Refusal}
-use Rattle.transport.specs.declared.Key.{Key}
-use Rattle.transport.specs.declared.control.Announcement.{Announcement}
 use Rattle.transport.specs.declared.response.Response.{Response}
+use Rattle.answer.specs.declared.Answer.{Answer}
+use Rattle.answer.specs.Answers.{wireOf}
 use Rattle.session.specs.declared.Session.{Session}
-use Rattle.session.specs.declared.announcement.Form.{Form}
-use Rattle.session.specs.declared.announcement.Form.the-variants as form
-use Rattle.session.specs.declared.segment.Judged.{Judged}
+use Rattle.session.specs.declared.State.{State}
+use Rattle.session.specs.declared.State.the-variants as is
+use Rattle.session.specs.declared.Change.{Change}
+use Rattle.session.specs.declared.Change.the-variants as change
+use Rattle.session.specs.declared.Step.{Step}
+use Rattle.session.specs.Bounds.{sessionOk}
+use Rattle.session.specs.Decisions.{after}
+use Rattle.slots.specs.declared.Found.{Found}
+use Rattle.slots.specs.declared.Found.the-variants.{At, Nothing}
+use Rattle.slots.specs.Slots.{stateIn}
 use Rattle.receiver.specs.declared.Receiver.{Receiver}
-use Rattle.slots.specs.declared.SlotState.{SlotState}
-use Rattle.slots.specs.declared.SlotState.the-variants as slot
-use Rattle.receiver.specs.declared.answer.Answer.{Answer}
-use Rattle.receiver.specs.declared.answer.Stepped.{Stepped}
-use Rattle.receiver.specs.Calls.{Outcome, withSlot, rejected, onForm, onJudged}
-use Rattle.receiver.specs.Answers.{wireOf}
+use Rattle.receiver.specs.Calls.{Outcome, withSlot, apply}
 use Rattle.isolation.specs.OwnFrames.{keyAt}
 use Rattle.isolation.specs.Replies.{Reply, sent}
 use Rattle.isolation.specs.Rules.{Values, Open, Out}
@@ -28,35 +30,38 @@ use Rattle.isolation.specs.Observe.{replyOf, touches}
 use Rattle.isolation.proofs.Slots.{Slots, at, holds}
 use Rattle.isolation.proofs.Bytes.{part, Within}
 use Rattle.isolation.proofs.Pieces.{cut}
-use Rattle.isolation.proofs.Sound.{Ok}
 
 -- the record of a session of which the rules have ρ
 abbrev pub recordOf : ℕ → Open → Session
 recordOf k ρ =
     record {
-      key = keyAt k;
-      kind = ρ .told .kind;
-      total = ρ .told .total;
-      segments = ρ .told .segments;
-      max = ρ .told .max;
-      pgn = ρ .told .pgn;
-      next = record { 0 = length (ρ .pieces) + 1 };
-      granted = record { 0 = ρ .granted };
-      mark = ρ .mark;
+      announced = record {
+        key = keyAt k;
+        kind = ρ .told .kind;
+        total = ρ .told .total;
+        segments = ρ .told .segments;
+        max = ρ .told .max;
+        pgn = ρ .told .pgn;
+      };
+      progress = record {
+        next = record { 0 = length (ρ .pieces) + 1 };
+        granted = record { 0 = ρ .granted };
+        mark = ρ .mark;
+      };
     }
 
 -- the slot's bytes say what the rules have
 pub record Rel (v : Values) (k : ℕ) (p : List ℕ) (ρ : Open) : Type 0 where
   pub pieces : ρ .pieces ≡ cut (ρ .told .total .0) (length (ρ .pieces)) p
   pub plain : ρ .told .assurance ≡ 0
-  pub fine : Ok (v .own) (recordOf k ρ)
+  pub fine : sessionOk (v .own) (recordOf k ρ) ≡ true
 
 -- a slot's state and bytes, and the rules' session of key k
-abbrev pub Ses : Values → ℕ → SlotState → List ℕ → Option Open → Type 0
-Ses v k slot.Free p none = Unit {0}
-Ses v k slot.Free p (some ρ) = ⊥
-Ses v k (slot.Open s) p none = ⊥
-Ses v k (slot.Open s) p (some ρ) = (s ≡ recordOf k ρ) × Rel v k p ρ
+abbrev pub Ses : Values → ℕ → State → List ℕ → Option Open → Type 0
+Ses v k is.Closed p none = Unit {0}
+Ses v k is.Closed p (some ρ) = ⊥
+Ses v k (is.Open s) p none = ⊥
+Ses v k (is.Open s) p (some ρ) = (s ≡ recordOf k ρ) × Rel v k p ρ
 
 -- slot i is the key's or free, and no other slot is the key's
 abbrev pub Place : Slots → ℕ → ℕ → Type 0
@@ -67,7 +72,7 @@ pub record Moves (v : Values) (r : Receiver) (m : List ℕ) (k : ℕ) (o : Outco
   pub slot : ℕ
   pub low : slot < 8
   pub place : Place (r .slots) slot k
-  pub state : SlotState
+  pub state : State
   pub next : o .0 .next ≡ withSlot r slot state
   pub ses : Ses v k state (part slot (o .1)) y
   pub store : Within slot m (o .1)
@@ -83,37 +88,69 @@ pub record Fit (v : Values) (r : Receiver) (m : List ℕ) (k : ℕ) (x : Option 
   pub only : (j : ℕ) → (k ≡ j → ⊥) → touches j (o .0 .answer) ≡ false
   pub change : Stays r m x o (q .0) ⊎ Moves v r m k o (q .0)
 
+-- ---- one session decides as its rules do
+
+-- a change of the session in the slot that was found: its state and its bytes are the rules' again
+pub record InSlot (v : Values) (k : ℕ) (f : Found) (m : List ℕ) (y : State) (c : Change) (m′ : List ℕ) (z : Option Open) : Type 0 where
+  pub slot : ℕ
+  pub found : f ≡ At slot
+  pub ses : Ses v k (after y c) (part slot m′) z
+  pub store : Within slot m m′
+
+abbrev pub Changed : Values → ℕ → Found → List ℕ → Option Open → State → Change → List ℕ → Option Open → Type 0
+Changed v k f m x y change.Stays m′ z = (z ≡ x) × (m′ ≡ m)
+Changed v k f m x y (change.Opens s) m′ z = InSlot v k f m y (change.Opens s) m′ z
+Changed v k f m x y (change.Moves p) m′ z = InSlot v k f m y (change.Moves p) m′ z
+Changed v k f m x y change.Ends m′ z = InSlot v k f m y change.Ends m′ z
+
+-- f: the slot for the key; m: the store; x, y: what the rules and the slot have; m′: the store after the step
+pub record Tied (v : Values) (k : ℕ) (f : Found) (m : List ℕ) (x : Option Open) (y : State) (st : Step) (m′ : List ℕ) (q : Out) : Type 0 where
+  pub reply : replyOf (st .answer) m′ ≡ q .1
+  pub only : (j : ℕ) → (k ≡ j → ⊥) → touches j (st .answer) ≡ false
+  pub changed : Changed v k f m x y (st .change) m′ (q .0)
+
+-- ---- the change applied to the slot
+
+module _ (v : Values) (r : Receiver) (m : List ℕ) (k : ℕ) (x : Option Open) (a : Answer) (m′ : List ℕ) (q : Out) where
+  moves : (i : ℕ) → i < 8 → Place (r .slots) i k → (s : State) (reply : replyOf a m′ ≡ q .1) (only : (j : ℕ) → (k ≡ j → ⊥) → touches j a ≡ false)
+      → Ses v k s (part i m′) (q .0) → Within i m m′ → Fit v r m k x (record { next = withSlot r i s; answer = a }, m′) q
+  moves i low place s reply only ses store = record {
+    reply = reply;
+    only = only;
+    change = inr (record { slot = i; low = low; place = place; state = s; next = refl; ses = ses; store = store });
+  }
+
+  no-slot : (i : ℕ) → Nothing ≡ At i → ⊥
+  no-slot i e = let z : _≡_ {A = ℕ} 0 1 = cc in omega arith
+
+  same-slot : (i j : ℕ) → At i ≡ At j → i ≡ j
+  same-slot i j e = cc
+
+  in-place : (i : ℕ) → ((j : ℕ) → At i ≡ At j → (j < 8) × Place (r .slots) j k) → (c : Change) → replyOf a m′ ≡ q .1 → ((j : ℕ) → (k ≡ j → ⊥) → touches j a ≡ false)
+      → InSlot v k (At i) m (at (r .slots) i) c m′ (q .0)
+      → Fit v r m k x (record { next = withSlot r i (after (at (r .slots) i) c); answer = a }, m′) q
+  in-place i low c reply only h =
+      let e : h .slot ≡ i = sym (same-slot i (h .slot) (h .found)) in
+      moves i (low i refl .0) (low i refl .1) (after (at (r .slots) i) c) reply only (rw e at (h .ses)) (rw e at (h .store))
+
+  pub applies : (f : Found) → ((i : ℕ) → f ≡ At i → (i < 8) × Place (r .slots) i k) → (c : Change)
+      → Tied v k f m x (stateIn f (r .slots)) (record { change = c; answer = a }) m′ q
+      → Fit v r m k x (apply r f (record { change = c; answer = a }), m′) q
+  applies Nothing low change.Stays t = record { reply = t .reply; only = t .only; change = inl (record { next = refl; store = t .changed .1; ses = t .changed .0 }) }
+  applies (At i) low change.Stays t = record { reply = t .reply; only = t .only; change = inl (record { next = refl; store = t .changed .1; ses = t .changed .0 }) }
+  applies Nothing low (change.Opens s) t = absurd (no-slot (t .changed .slot) (t .changed .found))
+  applies Nothing low (change.Moves p) t = absurd (no-slot (t .changed .slot) (t .changed .found))
+  applies Nothing low change.Ends t = absurd (no-slot (t .changed .slot) (t .changed .found))
+  applies (At i) low (change.Opens s) t = in-place i low (change.Opens s) (t .reply) (t .only) (t .changed)
+  applies (At i) low (change.Moves p) t = in-place i low (change.Moves p) (t .reply) (t .only) (t .changed)
+  applies (At i) low change.Ends t = in-place i low change.Ends (t .reply) (t .only) (t .changed)
+
 -- ---- both sides make one test
 
-module _ {v : Values} {r : Receiver} {m : List ℕ} {k : ℕ} {x : Option Open} where
-  pub fit-cond : {o o′ : Outcome} {q q′ : Out} (t t′ : Bool) → t′ ≡ t → (t ≡ true → Fit v r m k x o q) → (t ≡ false → Fit v r m k x o′ q′)
-      → Fit v r m k x (cond t o o′) (cond t′ q q′)
-  fit-cond true t′ e f g = rw e (f refl)
-  fit-cond false t′ e f g = rw e (g refl)
-
-  pub fit-step : {a b : Stepped} {n : List ℕ} {q q′ : Out} (t t′ : Bool) → t′ ≡ t → (t ≡ true → Fit v r m k x (a, n) q) → (t ≡ false → Fit v r m k x (b, n) q′)
-      → Fit v r m k x (cond t a b, n) (cond t′ q q′)
-  fit-step true t′ e f g = rw e (f refl)
-  fit-step false t′ e f g = rw e (g refl)
-
-  pub fit-reply : {a b : Stepped} {n : List ℕ} {y : Option Open} {p p′ : Reply} (t t′ : Bool) → t′ ≡ t → (t ≡ true → Fit v r m k x (a, n) (y, p)) → (t ≡ false → Fit v r m k x (b, n) (y, p′))
-      → Fit v r m k x (cond t a b, n) (y, cond t′ p p′)
-  fit-reply true t′ e f g = rw e (f refl)
-  fit-reply false t′ e f g = rw e (g refl)
-
-  -- a fault of form
-  pub fit-form : {q q′ : Out} (f : Form) (κ : Key) (a : Announcement) (n : Refusal) (t t′ : Bool) → t′ ≡ t
-      → (t ≡ true → Fit v r m k x (rejected r κ a n, m) q) → (t ≡ false → Fit v r m k x (onForm f r κ a, m) q′)
-      → Fit v r m k x (onForm (cond t (form.Bad n) f) r κ a, m) (cond t′ q q′)
-  fit-form f κ a n true t′ e g h = rw e (g refl)
-  fit-form f κ a n false t′ e g h = rw e (h refl)
-
-  -- a judgement on a segment
-  pub fit-judged : {q q′ : Out} (a b : Judged) (i : ℕ) (s : Session) (n : ℕ) (d : List ℕ) (t t′ : Bool) → t′ ≡ t
-      → (t ≡ true → Fit v r m k x (onJudged a r i s n d m) q) → (t ≡ false → Fit v r m k x (onJudged b r i s n d m) q′)
-      → Fit v r m k x (onJudged (cond t a b) r i s n d m) (cond t′ q q′)
-  fit-judged a b i s n d true t′ e g h = rw e (g refl)
-  fit-judged a b i s n d false t′ e g h = rw e (h refl)
+pub walk : {A B : Type 0} (P : A → B → Type 0) {a b : A} {q q′ : B} (t t′ : Bool) → t′ ≡ t → (t ≡ true → P a q) → (t ≡ false → P b q′)
+    → P (cond t a b) (cond t′ q q′)
+walk P true t′ e f g = rw e (f refl)
+walk P false t′ e f g = rw e (g refl)
 
 -- ---- answers by a test
 

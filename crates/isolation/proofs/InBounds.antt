@@ -15,12 +15,14 @@ use Rattle.session.specs.declared.Session.{Session}
 use Rattle.session.specs.Segments.{dueOf}
 use Rattle.receiver.specs.declared.Receiver.{Receiver}
 use Rattle.slots.specs.declared.Slot.{Slot}
-use Rattle.slots.specs.declared.SlotState.{SlotState}
-use Rattle.slots.specs.declared.SlotState.the-variants as is
+use Rattle.session.specs.declared.State.{State}
+use Rattle.session.specs.declared.State.the-variants as is
 use Rattle.slots.specs.declared.Found.{Found}
 use Rattle.slots.specs.declared.Found.the-variants.{At, Nothing}
 use Rattle.slots.specs.Slots.{keyPlace, onFound}
-use Rattle.slots.specs.Bounds.{openingOk, stateOk, slotOk, anyHolds, stateTwin, twinOf, slotsOk}
+use Rattle.session.specs.Bounds.{sessionOk, stateOk}
+use Rattle.session.specs.InBounds.{Sound, sound-of}
+use Rattle.slots.specs.Bounds.{openingOk, slotOk, anyHolds, stateTwin, twinOf, slotsOk}
 use Rattle.receiver.specs.Bounds.{inBounds}
 use Rattle.isolation.specs.OwnFrames.{keyAt}
 use Rattle.isolation.specs.Rules.{Values, Open, Piece}
@@ -33,7 +35,6 @@ use Rattle.isolation.proofs.Bytes.{part}
 use Rattle.isolation.proofs.Opened.{any, any-from, any-none, Bounded}
 use Rattle.isolation.proofs.Same.{due-same}
 use Rattle.isolation.proofs.Pieces.{window, cut, length-cut, segment-inside}
-use Rattle.isolation.proofs.Sound.{Ok, true-ok}
 use Rattle.isolation.proofs.Fit.{Ses}
 use Rattle.isolation.proofs.Many.{Sim, own-small, state-bounded}
 
@@ -44,16 +45,16 @@ unfolding any openIn holds
 any-same k [] = refl
 any-same k (x ∷ l) = ap₂ (λ (s t : Bool). s || t) (sym (holds-same k (x .state))) (any-same k l)
 
-alone-true : (n : ℕ) (x : SlotState) (l : Slots) → Bounded n x → ((k : ℕ) → holds k x ≡ true → any k l ≡ false) → not (stateTwin x l) ≡ true
+alone-true : (n : ℕ) (x : State) (l : Slots) → Bounded n x → ((k : ℕ) → holds k x ≡ true → any k l ≡ false) → not (stateTwin x l) ≡ true
 unfolding holds
-alone-true n is.Free l b h = refl
+alone-true n is.Closed l b h = refl
 alone-true n (is.Open s) l b h =
-    let e : keyAt (keyNumber (s .key)) ≡ s .key = key-of (s .key) (b .small s refl) in
-    ap not (subst (λ (κ : Key). anyHolds κ l ≡ false) e (sym (any-same (keyNumber (s .key)) l) ∙ h (keyNumber (s .key)) (keys-same (s .key) (keyAt (keyNumber (s .key))) (sym e))))
+    let e : keyAt (keyNumber (s .announced .key)) ≡ s .announced .key = key-of (s .announced .key) (b .small s refl) in
+    ap not (subst (λ (κ : Key). anyHolds κ l ≡ false) e (sym (any-same (keyNumber (s .announced .key)) l) ∙ h (keyNumber (s .announced .key)) (keys-same (s .announced .key) (keyAt (keyNumber (s .announced .key))) (sym e))))
 
-true-alone : (x : SlotState) (l : Slots) → not (stateTwin x l) ≡ true → (k : ℕ) → holds k x ≡ true → any k l ≡ false
-true-alone is.Free l h k e = absurd (clash (holds k is.Free) e (holds-free k))
-true-alone (is.Open s) l h k e = any-same k l ∙ rw (← open-key k s e) (not-true (anyHolds (s .key) l) h)
+true-alone : (x : State) (l : Slots) → not (stateTwin x l) ≡ true → (k : ℕ) → holds k x ≡ true → any k l ≡ false
+true-alone is.Closed l h k e = absurd (clash (holds k is.Closed) e (holds-free k))
+true-alone (is.Open s) l h k e = any-same k l ∙ rw (← open-key k s e) (not-true (anyHolds (s .announced .key) l) h)
 
 pub slots-true : (own : Address) → own .0 ≤ 253 → (l : Slots) → Unique l → ((i : ℕ) → stateOk own (at l i) ≡ true) → slotsOk own l ≡ true
 unfolding slotsOk
@@ -84,7 +85,7 @@ true-all own (x ∷ l) e zero = head-ok own x l e
 true-all own (x ∷ l) e (suc i) = true-all own l (tail-ok own x l e) i
 
 pub true-unique : (own : Address) (l : Slots) → slotsOk own l ≡ true → Unique l
-true-unique own [] e i j k g h = absurd (clash (holds k is.Free) g (holds-free k))
+true-unique own [] e i j k g h = absurd (clash (holds k is.Closed) g (holds-free k))
 true-unique own (x ∷ l) e zero zero k g h = refl
 true-unique own (x ∷ l) e zero (suc j) k g h = absurd (clash (any k l) (any-from k l j h) (true-alone (x .state) l (head-alone own x l e) k g))
 true-unique own (x ∷ l) e (suc i) zero k g h = absurd (clash (any k l) (any-from k l i g) (true-alone (x .state) l (head-alone own x l e) k h))
@@ -122,29 +123,35 @@ pieces-cut i m total segments (suc n) h s u =
     (rw (due-same total (suc n) (omega arith), g) (window-part i m (60 * n) (dueOf total (suc n)) fits))
     (pieces-cut i m total segments n h s (omega arith))
 
-same-record : (s : Session) (k n : ℕ) → s .key ≡ keyAt k → s .next .0 ≡ n
-    → s ≡ record { key = keyAt k; kind = s .kind; total = s .total; segments = s .segments; max = s .max; pgn = s .pgn; next = record { 0 = n }; granted = s .granted; mark = s .mark }
+same-record : (s : Session) (k n : ℕ) → s .announced .key ≡ keyAt k → s .progress .next .0 ≡ n
+    → s ≡ record {
+      announced = record { key = keyAt k; kind = s .announced .kind; total = s .announced .total; segments = s .announced .segments; max = s .announced .max; pgn = s .announced .pgn };
+      progress = record { next = record { 0 = n }; granted = s .progress .granted; mark = s .progress .mark };
+    }
 same-record s k n e f =
-    ap₂ (λ (x : Key) (y : ℕ). record { key = x; kind = s .kind; total = s .total; segments = s .segments; max = s .max; pgn = s .pgn; next = record { 0 = y }; granted = s .granted; mark = s .mark }) e f
+    ap₂ (λ (x : Key) (y : ℕ). record {
+      announced = record { key = x; kind = s .announced .kind; total = s .announced .total; segments = s .announced .segments; max = s .announced .max; pgn = s .announced .pgn };
+      progress = record { next = record { 0 = y }; granted = s .progress .granted; mark = s .progress .mark };
+    }) e f
 
-explained : (v : Values) (k i : ℕ) (m : List ℕ) (x : SlotState) → stateOk (v .own) x ≡ true → holds k x ≡ true → Ses v k x (part i m) (openOf i m x)
+explained : (v : Values) (k i : ℕ) (m : List ℕ) (x : State) → stateOk (v .own) x ≡ true → holds k x ≡ true → Ses v k x (part i m) (openOf i m x)
 unfolding openOf
-explained v k i m is.Free e h = tt
+explained v k i m is.Closed e h = tt
 explained v k i m (is.Open s) e h =
-    let ok : Ok (v .own) s = true-ok (v .own) s e in
-    let low : 1 ≤ s .next .0 = ok .low in
-    let high : s .next .0 ≤ s .segments .0 + 1 = ok .high in
-    let c : ℕ = s .next .0 - 1 in
-    let is-cut : piecesOf i m (s .total .0) (s .next .0 - 1) ≡ cut (s .total .0) (s .next .0 - 1) (part i m) =
-    pieces-cut i m (s .total .0) (s .segments .0) (s .next .0 - 1) (ok .most) (ok .count) (omega arith) in
-    let len : length (piecesOf i m (s .total .0) (s .next .0 - 1)) ≡ s .next .0 - 1 = ap length is-cut ∙ length-cut (s .total .0) (s .next .0 - 1) (part i m) in
-    let same : s ≡ record { key = keyAt k; kind = s .kind; total = s .total; segments = s .segments; max = s .max; pgn = s .pgn; next = record { 0 = length (piecesOf i m (s .total .0) (s .next .0 - 1)) + 1 }; granted = s .granted; mark = s .mark } =
-    same-record s k (length (piecesOf i m (s .total .0) (s .next .0 - 1)) + 1) (open-key k s h) (omega arith) in (
+    let ok : Sound (v .own) s = sound-of (v .own) s e in
+    let total : ℕ = s .announced .total .0 in
+    let next : ℕ = s .progress .next .0 in
+    let low : 1 ≤ s .progress .next .0 = ok .reached .low in
+    let high : s .progress .next .0 ≤ s .announced .segments .0 + 1 = ok .reached .high in
+    let is-cut : piecesOf i m total (next - 1) ≡ cut total (next - 1) (part i m) =
+    pieces-cut i m total (s .announced .segments .0) (next - 1) (ok .agreed .fits) (ok .agreed .count) (omega arith) in
+    let len : length (piecesOf i m total (next - 1)) ≡ next - 1 = ap length is-cut ∙ length-cut total (next - 1) (part i m) in
+    let same = same-record s k (length (piecesOf i m total (next - 1)) + 1) (open-key k s h) (omega arith) in (
       same,
       record {
-        pieces = is-cut ∙ ap (λ (n : ℕ). cut (s .total .0) n (part i m)) (sym len);
+        pieces = is-cut ∙ ap (λ (n : ℕ). cut total n (part i m)) (sym len);
         plain = refl;
-        fine = subst (Ok (v .own)) same ok;
+        fine = subst (λ (z : Session). sessionOk (v .own) z ≡ true) same e;
       },
     )
 

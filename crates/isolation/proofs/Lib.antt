@@ -5,7 +5,6 @@ pub mod Bytes
 pub mod Opened
 pub mod Same
 pub mod Pieces
-pub mod Sound
 pub mod Fit
 pub mod Single
 pub mod Silent

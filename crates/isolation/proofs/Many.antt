@@ -14,31 +14,36 @@ use borrow.Author.Tests.{eqb-true, eq-eqb, ne-eqb, le-leb, lt-leb, leb-true}
 use Rattle.laws.specs.Choice.{each-of}
 use Rattle.frame.specs.declared.Address.{Address}
 use Rattle.session.specs.declared.Session.{Session}
-use Rattle.session.specs.Announcements as S
+use Rattle.transport.specs.Kinds.{isRts}
 use Rattle.session.specs.Ends.{elapsed}
 use Rattle.receiver.specs.declared.Receiver.{Receiver}
 use Rattle.slots.specs.declared.Slot.{Slot}
-use Rattle.slots.specs.declared.SlotState.{SlotState}
-use Rattle.slots.specs.declared.SlotState.the-variants as is
+use Rattle.session.specs.declared.State.{State}
+use Rattle.session.specs.declared.State.the-variants as is
 use Rattle.slots.specs.declared.Found.{Found}
 use Rattle.slots.specs.declared.Found.the-variants.{At, Nothing}
-use Rattle.slots.specs.Slots.{keyPlace, firstFree, freeSlot, freeState}
-use Rattle.slots.specs.Bounds.{openingOk, stateOk}
-use Rattle.receiver.specs.Calls.{Outcome, withSlot, expired, expiredState, slotEnd, endOf, readingKept}
+use Rattle.slots.specs.Slots.{keyPlace, firstFree, slotFor, stateIn, isAt, orElse, freeSlot, freeState}
+use Rattle.session.specs.Bounds.{sessionOk, stateOk}
+use Rattle.session.specs.InBounds.{sound-of}
+use Rattle.slots.specs.Bounds.{openingOk}
+use Rattle.receiver.specs.Calls.{Outcome, withSlot, slotOf, afterEnd, expired, expiredState, slotEnd, endOf, readingKept}
+use Rattle.session.specs.declared.Step.{Step}
+use Rattle.session.specs.Decisions as D
+use Rattle.frame.specs.declared.refusal.Refusal.the-variants.{Silence}
+use Rattle.answer.specs.declared.End.the-variants as end
 use Rattle.isolation.specs.Rules as R
 use Rattle.isolation.specs.OwnFrames.{keyAt, frameKey, allKeys, Body, announce, segment, status, abort, bodyOf}
 use Rattle.isolation.specs.Replies.{Reply}
 use Rattle.isolation.specs.Rules.{Values, Open, Out, isOpen, rule, judgedAt, endsAt, mine, nextState, output, outputs}
 use Rattle.isolation.specs.World.{frame, clock, lent, World, eightOthers, isAnnouncement, seesBody, sees, after, worldAfter}
-use Rattle.isolation.specs.Observe.{replyOf, lost, isBody, isOwn, strays, frameSeen, endingOf, endingsOf, keptNumber, readingSeen}
+use Rattle.isolation.specs.Observe.{replyOf, lost, isBody, isOwn, strays, frameSeen, endingOf, endingsOf, readingSeen}
 use Rattle.isolation.proofs.Tests.{or-false, clash, and-left, or-1}
 use Rattle.isolation.proofs.Slots.{Slots, at, holds, holds-free, holds-one, keyNumber, Small, find-some, find-none, lowest-some, lowest-none, Unique}
 use Rattle.isolation.proofs.Count.{count-same}
 use Rattle.isolation.proofs.Bytes.{part}
 use Rattle.isolation.proofs.Opened.{any, any-from, any-none, others, others-less, others-all, Bounded, count-others}
-use Rattle.isolation.proofs.Sound.{Ok, ok-true, true-ok}
-use Rattle.isolation.proofs.Fit.{recordOf, Ses, Moves, Stays, Fit}
-use Rattle.isolation.proofs.Single.{Mine, bodyStep, Reads, held-fit, shut-fit}
+use Rattle.isolation.proofs.Fit.{recordOf, Ses, Place, Moves, Stays, Tied, Fit, applies}
+use Rattle.isolation.proofs.Single.{Mine, asked, leaves, bodyStep, Reads, held-tied, shut-tied}
 use Rattle.isolation.proofs.Silent.{ses-key, ses-shut, expire-ses, expire-holds, ends-own, ends-other}
 use Rattle.isolation.proofs.Read.{Foreign, Takes, Agrees, frame-mine}
 
@@ -61,10 +66,10 @@ own-small own limit e =
 
 -- ---- a frame that changes its own slot
 
-pub ses-ok : (v : Values) (k : ℕ) (x : SlotState) (p : List ℕ) (y : Option Open) → Ses v k x p y → stateOk (v .own) x ≡ true
-ses-ok v k is.Free p y m = refl
+pub ses-ok : (v : Values) (k : ℕ) (x : State) (p : List ℕ) (y : Option Open) → Ses v k x p y → stateOk (v .own) x ≡ true
+ses-ok v k is.Closed p y m = refl
 ses-ok v k (is.Open s) p none m = absurd m
-ses-ok v k (is.Open s) p (some ρ) m = rw (m .0) (ok-true (v .own) (recordOf k ρ) (m .1 .fine))
+ses-ok v k (is.Open s) p (some ρ) m = rw (m .0) (m .1 .fine)
 
 module _ (v : Values) (r : Receiver) (m : List ℕ) (w : World) (sim : Sim v r m w) (k : ℕ) (o : Outcome) (y : Option Open) (mv : Moves v r m k o y)
     (w′ : World) (wk : w′ k .session ≡ y) (wo : (j : ℕ) → (j ≡ k → ⊥) → w′ j .session ≡ w j .session) (wl : (j : ℕ) → w′ j .last ≡ w j .last) where
@@ -143,35 +148,35 @@ unchanged v r m w r′ m′ e f sim = rw (e, f) sim
 
 -- ---- eight others
 
-session-bounded : (own : Address) (s : Session) → own .0 ≤ 253 → Ok own s → Small (s .key) × (keyNumber (s .key) < allKeys)
+session-bounded : (own : Address) (s : Session) → own .0 ≤ 253 → sessionOk own s ≡ true → Small (s .announced .key) × (keyNumber (s .announced .key) < allKeys)
 session-bounded own s h ok =
-    let t = each-of (leb (s .key .sa .0) 253 ∷ not (eqb (s .key .sa .0) (own .0)) ∷ eqb (s .key .da .0) (cond (S.isRts (s .kind)) (own .0) 255) ∷ leb (s .key .session .0) 15 ∷ []) (ok .key) in
-    let a : s .key .sa .0 ≤ 253 = leb-true (s .key .sa .0) 253 (t .0) in
-    let b : s .key .da .0 ≤ 255 = rw (eqb-true (s .key .da .0) (cond (S.isRts (s .kind)) (own .0) 255) (t .1 .1 .0)) (either (S.isRts (s .kind))) in
-    let c : s .key .session .0 ≤ 15 = leb-true (s .key .session .0) 15 (t .1 .1 .1 .0) in
+    let t = each-of (leb (s .announced .key .sa .0) 253 ∷ not (eqb (s .announced .key .sa .0) (own .0)) ∷ eqb (s .announced .key .da .0) (cond (isRts (s .announced .kind)) (own .0) 255) ∷ leb (s .announced .key .session .0) 15 ∷ []) (sound-of own s ok .key) in
+    let a : s .announced .key .sa .0 ≤ 253 = leb-true (s .announced .key .sa .0) 253 (t .0) in
+    let b : s .announced .key .da .0 ≤ 255 = rw (eqb-true (s .announced .key .da .0) (cond (isRts (s .announced .kind)) (own .0) 255) (t .1 .1 .0)) (either (isRts (s .announced .kind))) in
+    let c : s .announced .key .session .0 ≤ 15 = leb-true (s .announced .key .session .0) 15 (t .1 .1 .1 .0) in
     (record { da = omega arith; session = omega arith }, omega arith)
   where
     either : (b : Bool) → cond b (own .0) 255 ≤ 255
     either true = omega arith
     either false = omega arith
 
-pub state-bounded : (own : Address) (x : SlotState) → own .0 ≤ 253 → stateOk own x ≡ true → Bounded allKeys x
-state-bounded own is.Free h e = record { small = λ s z. absurd (no s z); below = λ s z. absurd (no s z) }
+pub state-bounded : (own : Address) (x : State) → own .0 ≤ 253 → stateOk own x ≡ true → Bounded allKeys x
+state-bounded own is.Closed h e = record { small = λ s z. absurd (no s z); below = λ s z. absurd (no s z) }
   where
-    no : (s : Session) → is.Free ≡ is.Open s → ⊥
-    no s z = clash (freeState is.Free) refl (ap freeState z)
+    no : (s : Session) → is.Closed ≡ is.Open s → ⊥
+    no s z = clash (freeState is.Closed) refl (ap freeState z)
 state-bounded own (is.Open t) h e = record {
-  small = λ s z. rw (same s z) (session-bounded own t h (true-ok own t e) .0);
-  below = λ s z. rw (same s z) (session-bounded own t h (true-ok own t e) .1);
+  small = λ s z. rw (same s z) (session-bounded own t h e .0);
+  below = λ s z. rw (same s z) (session-bounded own t h e .1);
 }
   where
     same : (s : Session) → is.Open t ≡ is.Open s → s ≡ t
     same s z = cc
 
-open-of : (v : Values) (k : ℕ) (x : SlotState) (p : List ℕ) (y : Option Open) → Ses v k x p y → holds k x ≡ true → isOpen y ≡ true
+open-of : (v : Values) (k : ℕ) (x : State) (p : List ℕ) (y : Option Open) → Ses v k x p y → holds k x ≡ true → isOpen y ≡ true
 unfolding isOpen holds
-open-of v k is.Free p none m e = e
-open-of v k is.Free p (some ρ) m e = refl
+open-of v k is.Closed p none m e = e
+open-of v k is.Closed p (some ρ) m e = refl
 open-of v k (is.Open s) p none m e = absurd m
 open-of v k (is.Open s) p (some ρ) m e = refl
 
@@ -193,7 +198,7 @@ module _ (v : Values) (r : Receiver) (m : List ℕ) (w : World) (sim : Sim v r m
       ∙ count-others allKeys k (r .slots) (sim .uniq) (λ i. state-bounded (v .own) (at (r .slots) i) (own-small (v .own) (v .limit) (sim .good)) (sim .ok i)))
 
   -- a slot is free: not eight others
-  room : (k i : ℕ) → i < length (r .slots) → at (r .slots) i ≡ is.Free → eightOthers w k ≡ false
+  room : (k i : ℕ) → i < length (r .slots) → at (r .slots) i ≡ is.Closed → eightOthers w k ≡ false
   room k i h e =
       let z : others k (r .slots) < length (r .slots) = others-less k (r .slots) i h (or-1 (freeState (at (r .slots) i)) (holds k (at (r .slots) i)) (ap freeState e)) in
       let y : length (r .slots) ≡ 8 = sim .eight in
@@ -207,6 +212,9 @@ module _ (v : Values) (r : Receiver) (m : List ℕ) (w : World) (sim : Sim v r m
 
 -- ---- an own frame
 
+slot-same : (i j : ℕ) → At i ≡ At j → i ≡ j
+slot-same i j e = cc
+
 -- only an announcement asks whether eight others are open
 rule-told : (v : Values) (k last : ℕ) (e : Bool) (x : Option Open) (b : Body) → rule v k last (isAnnouncement b && e) x b ≡ rule v k last e x b
 unfolding rule
@@ -219,44 +227,65 @@ module _ (v : Values) (r : Receiver) (m : List ℕ) (w : World) (sim : Sim v r m
   q : Option Open → Out
   q y = rule v k (r .last) (eightOthers w k) y b
 
+  step-at : Found → Step
+  step-at f = asked (stateIn f (r .slots)) (isAt f) (slotOf f) (r .last) (keyAt k) b
+
+  -- the change applied to the slot for the key
+  in-slot : (f : Found) → ((i : ℕ) → f ≡ At i → (i < 8) × Place (r .slots) i k) → (y : Option Open) (z : Out)
+      → Tied v k f m y (stateIn f (r .slots)) (step-at f) (leaves b (step-at f) f (stateIn f (r .slots)) d m) z
+      → slotFor (keyAt k) (r .slots) ≡ f → Fit v r m k y (bodyStep r (keyAt k) b d m) z
+  unfolding step-at
+  in-slot f low y z t e = rw e (applies v r m k y (step-at f .answer) (leaves b (step-at f) f (stateIn f (r .slots)) d m) z f low (step-at f .change) t)
+
   -- the key's slot
-  found : (i : ℕ) → keyPlace (keyAt k) (r .slots) ≡ At i → (x : SlotState) (y : Option Open) → at (r .slots) i ≡ x → Ses v k x (part i m) y → holds k x ≡ true
+  found : (i : ℕ) → keyPlace (keyAt k) (r .slots) ≡ At i → (x : State) (y : Option Open) → at (r .slots) i ≡ x → Ses v k x (part i m) y → holds k x ≡ true
       → Fit v r m k y (bodyStep r (keyAt k) b d m) (q y)
-  unfolding q
-  found i f is.Free y e ses h = absurd (clash (holds k is.Free) h (holds-free k))
+  unfolding q step-at
+  found i f is.Closed y e ses h = absurd (clash (holds k is.Closed) h (holds-free k))
   found i f (is.Open s) none e ses h = absurd ses
   found i f (is.Open s) (some ρ) e ses h =
       let z : i < length (r .slots) = find-some k (r .slots) i f .1 in
       let y : length (r .slots) ≡ 8 = sim .eight in
+      let low : i < 8 = omega arith in
       let here : holds k (at (r .slots) i) ≡ true = find-some k (r .slots) i f .0 in
-      held-fit v r m (sim .whole) k me ρ
-      (record {
-        slot = i;
-        low = omega arith;
-        place = λ j n g. ((λ u. holds-one n k (at (r .slots) i) (rw u at g) here), (λ u. sim .uniq j i k (rw u at g) here));
-        found = f;
-        state = e ∙ ap is.Open (ses .0);
-        rel = ses .1;
-      })
-      (eightOthers w k) b d reads
+      let state : at (r .slots) i ≡ is.Open (recordOf k ρ) = e ∙ ap is.Open (ses .0) in
+      in-slot (At i)
+      (λ j u. subst (λ (j : ℕ). (j < 8) × Place (r .slots) j k) (slot-same i j u)
+      (low, λ j n g. ((λ u. holds-one n k (at (r .slots) i) (rw u at g) here), (λ u. sim .uniq j i k (rw u at g) here))))
+      (some ρ) (rule v k (r .last) (eightOthers w k) (some ρ) b)
+      (rw state (held-tied v k i low m (sim .whole) me ρ (ses .1) (r .last) (eightOthers w k) true b d reads))
+      (ap (λ (g : Found). orElse g (firstFree (r .slots))) f)
 
   -- no slot is the key's
   missing : keyPlace (keyAt k) (r .slots) ≡ Nothing → Fit v r m k none (bodyStep r (keyAt k) b d m) (q none)
-  unfolding q
-  missing f =
-      shut-fit v r m (sim .whole) k me f (eightOthers w k)
-      (λ rm. room v r m w sim k (rm .slot) (lowest-some (r .slots) (rm .slot) (rm .free) .1) (lowest-some (r .slots) (rm .slot) (rm .free) .0))
-      (λ e. no-room v r m w sim k (find-none k (r .slots) f) e)
-      (λ i e.
-      let z : i < length (r .slots) = lowest-some (r .slots) i e .1 in
-      let y : length (r .slots) ≡ 8 = sim .eight in (
-        omega arith,
-        λ j n g. (
-          (λ u. absurd (clash (holds n is.Free) (rw (u, lowest-some (r .slots) i e .0) at g) (holds-free n))),
-          (λ u. absurd (clash (holds k (at (r .slots) j)) (rw u at g) (find-none k (r .slots) f j))),
-        ),
-      ))
-      b d reads
+  unfolding q step-at
+  missing f = go (firstFree (r .slots)) refl
+    where
+      nobody : (g : Found) → firstFree (r .slots) ≡ g → (i : ℕ) → g ≡ At i → (i < 8) × Place (r .slots) i k
+      nobody g e i u =
+          let e′ : firstFree (r .slots) ≡ At i = e ∙ u in
+          let z : i < length (r .slots) = lowest-some (r .slots) i e′ .1 in
+          let y : length (r .slots) ≡ 8 = sim .eight in (
+            omega arith,
+            λ j n h. (
+              (λ w₁. absurd (clash (holds n is.Closed) (rw (w₁, lowest-some (r .slots) i e′ .0) at h) (holds-free n))),
+              (λ w₁. absurd (clash (holds k (at (r .slots) j)) (rw w₁ at h) (find-none k (r .slots) f j))),
+            ),
+          )
+
+      closed : (g : Found) → firstFree (r .slots) ≡ g → stateIn g (r .slots) ≡ is.Closed
+      closed Nothing e = refl
+      closed (At i) e = lowest-some (r .slots) i e .0
+
+      full : (g : Found) → firstFree (r .slots) ≡ g → eightOthers w k ≡ not (isAt g)
+      full Nothing e = no-room v r m w sim k (find-none k (r .slots) f) e
+      full (At i) e = room v r m w sim k i (lowest-some (r .slots) i e .1) (lowest-some (r .slots) i e .0)
+
+      go : (g : Found) → firstFree (r .slots) ≡ g → Fit v r m k none (bodyStep r (keyAt k) b d m) (rule v k (r .last) (eightOthers w k) none b)
+      go g e =
+          in-slot g (nobody g e) none (rule v k (r .last) (eightOthers w k) none b)
+          (rw (closed g e) (shut-tied v k g m (sim .whole) me (r .last) (eightOthers w k) (full g e) b d))
+          (ap (λ (h : Found). orElse h (firstFree (r .slots))) f ∙ e)
 
   pub body-fit : Fit v r m k (w k .session) (bodyStep r (keyAt k) b d m) (rule v k (r .last) (eightOthers w k) (w k .session) b)
   unfolding q
@@ -369,7 +398,7 @@ endings-none limit t k (x ∷ l) h =
 
 endings-one : (limit t k : ℕ) (l : Slots) → Unique l → (i : ℕ) → holds k (at l i) ≡ true → endingsOf k (map (slotEnd limit t) l) ≡ endingOf k (endOf limit t (at l i))
 unfolding endingsOf
-endings-one limit t k [] u i h = absurd (clash (holds k is.Free) h (holds-free k))
+endings-one limit t k [] u i h = absurd (clash (holds k is.Closed) h (holds-free k))
 endings-one limit t k (x ∷ l) u zero h =
     ap (λ (b : List Reply). endingOf k (endOf limit t (x .state)) ++ b)
     (endings-none limit t k l (λ i. or-false (holds k (at l i)) (λ g. let z : 0 ≡ suc i = u 0 (suc i) k h g in omega arith)))
@@ -386,11 +415,11 @@ module _ (v : Values) (r : Receiver) (m : List ℕ) (w : World) (sim : Sim v r m
   was : (i k : ℕ) → holds k (at (map (expired (r .limit) t) (r .slots)) i) ≡ true → holds k (at (r .slots) i) ≡ true
   was i k h = expire-holds (r .limit) t k (at (r .slots) i) (rw (at-map i) at h)
 
-  expired-ok : (limit : ℕ) (x : SlotState) → stateOk (v .own) x ≡ true → stateOk (v .own) (expiredState limit t x) ≡ true
-  expired-ok limit is.Free e = refl
-  expired-ok limit (is.Open s) e = go (leb limit (elapsed (s .mark) t))
+  expired-ok : (limit : ℕ) (x : State) → stateOk (v .own) x ≡ true → stateOk (v .own) (expiredState limit t x) ≡ true
+  expired-ok limit is.Closed e = refl
+  expired-ok limit (is.Open s) e = go (leb limit (elapsed (s .progress .mark) t))
     where
-      go : (b : Bool) → stateOk (v .own) (cond b is.Free (is.Open s)) ≡ true
+      go : (b : Bool) → stateOk (v .own) (afterEnd (cond b (end.Ended (D.endingOf s Silence)) end.Stays) (is.Open s)) ≡ true
       go true = refl
       go false = e
 
@@ -419,7 +448,7 @@ module _ (v : Values) (r : Receiver) (m : List ℕ) (w : World) (sim : Sim v r m
           ses-shut v k (at (map (expired (r .limit) t) (r .slots)) i) (part i m) (judgedAt v t (w k .session)) (held′ i k (find-some k (r .slots) i e .0)) (h i) .1
 
   pub reading-says : (k : ℕ) → readingSeen k (readingKept r t) ≡ outputs v k (w k) (sees v w k (lent (clock t)))
-  unfolding readingSeen keptNumber sees outputs output endsAt
+  unfolding readingSeen sees outputs output endsAt
   reading-says k = ap (λ (x : List Reply). R.reading 0 x ∷ []) (go (keyPlace (keyAt k) (r .slots)) refl)
     where
       go : (f : Found) → keyPlace (keyAt k) (r .slots) ≡ f → endingsOf k (map (slotEnd (r .limit) t) (r .slots)) ≡ endsAt v k t (w k .session)

@@ -10,8 +10,8 @@ use lib.ListN.{length}
 use borrow.Author.Tests.{eq-eqb, ne-eqb}
 use Rattle.session.specs.declared.Session.{Session}
 use Rattle.slots.specs.declared.Slot.{Slot}
-use Rattle.slots.specs.declared.SlotState.{SlotState}
-use Rattle.slots.specs.declared.SlotState.the-variants.{Free, Open}
+use Rattle.session.specs.declared.State.{State}
+use Rattle.session.specs.declared.State.the-variants.{Closed, Open}
 use Rattle.slots.specs.Slots.{freeState}
 use Rattle.isolation.specs.World.{count}
 use Rattle.isolation.specs.Observe.{openIn}
@@ -64,45 +64,45 @@ others-all k [] h = refl
 others-all k (x ∷ l) h = rw (h 0 (omega arith)) (ap suc (others-all k l (λ i z. h (suc i) (omega arith))))
 
 -- each key held is below n, and its parts are as in a frame
-pub record Bounded (n : ℕ) (x : SlotState) : Type 0 where
-  pub small : (s : Session) → x ≡ Open s → Small (s .key)
-  pub below : (s : Session) → x ≡ Open s → keyNumber (s .key) < n
+pub record Bounded (n : ℕ) (x : State) : Type 0 where
+  pub small : (s : Session) → x ≡ Open s → Small (s .announced .key)
+  pub below : (s : Session) → x ≡ Open s → keyNumber (s .announced .key) < n
 
 head-alone : (x : Slot) (l : Slots) → Unique (x ∷ l) → (k : ℕ) → holds k (x .state) ≡ true → any k l ≡ false
 head-alone x l u k e = any-none k l (λ i. or-false (holds k (at l i)) (λ t. let z : 0 ≡ suc i = u 0 (suc i) k e t in omega arith))
 
-count-open : (n k : ℕ) (s : Session) (l : Slots) → keyNumber (s .key) < n → any (keyNumber (s .key)) l ≡ false
-    → count (λ j. (eqb (keyNumber (s .key)) j || any j l) && not (eqb j k)) n
-    ≡ cond (eqb (keyNumber (s .key)) k) (count (λ j. any j l && not (eqb j k)) n) (suc (count (λ j. any j l && not (eqb j k)) n))
-count-open n k s l b a = go (ℕ-discrete (keyNumber (s .key)) k)
+count-open : (n k : ℕ) (s : Session) (l : Slots) → keyNumber (s .announced .key) < n → any (keyNumber (s .announced .key)) l ≡ false
+    → count (λ j. (eqb (keyNumber (s .announced .key)) j || any j l) && not (eqb j k)) n
+    ≡ cond (eqb (keyNumber (s .announced .key)) k) (count (λ j. any j l && not (eqb j k)) n) (suc (count (λ j. any j l && not (eqb j k)) n))
+count-open n k s l b a = go (ℕ-discrete (keyNumber (s .announced .key)) k)
   where
     p : ℕ → Bool
-    p j = (eqb (keyNumber (s .key)) j || any j l) && not (eqb j k)
+    p j = (eqb (keyNumber (s .announced .key)) j || any j l) && not (eqb j k)
 
     q : ℕ → Bool
     q j = any j l && not (eqb j k)
 
-    same : keyNumber (s .key) ≡ k → (j : ℕ) → Dec (j ≡ k) → p j ≡ q j
-    same e j (yes z) = rw (eq-eqb j k z) (and-false (eqb (keyNumber (s .key)) j || any j l) ∙ sym (and-false (any j l)))
-    same e j (no z) = rw (ne-eqb (keyNumber (s .key)) j (λ y. z (sym y ∙ e)))
+    same : keyNumber (s .announced .key) ≡ k → (j : ℕ) → Dec (j ≡ k) → p j ≡ q j
+    same e j (yes z) = rw (eq-eqb j k z) (and-false (eqb (keyNumber (s .announced .key)) j || any j l) ∙ sym (and-false (any j l)))
+    same e j (no z) = rw (ne-eqb (keyNumber (s .announced .key)) j (λ y. z (sym y ∙ e)))
 
-    go : Dec (keyNumber (s .key) ≡ k) → count p n ≡ cond (eqb (keyNumber (s .key)) k) (count q n) (suc (count q n))
-    go (yes e) = rw (eq-eqb (keyNumber (s .key)) k e) (count-same p q n (λ j _. same e j (ℕ-discrete j k)))
+    go : Dec (keyNumber (s .announced .key) ≡ k) → count p n ≡ cond (eqb (keyNumber (s .announced .key)) k) (count q n) (suc (count q n))
+    go (yes e) = rw (eq-eqb (keyNumber (s .announced .key)) k e) (count-same p q n (λ j _. same e j (ℕ-discrete j k)))
     go (no e) =
-        rw (ne-eqb (keyNumber (s .key)) k e)
-        (count-one p q (keyNumber (s .key)) n b (rw (eq-eqb (keyNumber (s .key)) (keyNumber (s .key)) refl, ne-eqb (keyNumber (s .key)) k e)) (rw a) (λ j z. rw (ne-eqb (keyNumber (s .key)) j (λ y. z (sym y)))))
+        rw (ne-eqb (keyNumber (s .announced .key)) k e)
+        (count-one p q (keyNumber (s .announced .key)) n b (rw (eq-eqb (keyNumber (s .announced .key)) (keyNumber (s .announced .key)) refl, ne-eqb (keyNumber (s .announced .key)) k e)) (rw a) (λ j z. rw (ne-eqb (keyNumber (s .announced .key)) j (λ y. z (sym y)))))
 
 -- one slot before the rest
-count-head : (n k : ℕ) (x : SlotState) (l : Slots) → Bounded n x → ((j : ℕ) → holds j x ≡ true → any j l ≡ false)
+count-head : (n k : ℕ) (x : State) (l : Slots) → Bounded n x → ((j : ℕ) → holds j x ≡ true → any j l ≡ false)
     → count (λ j. (holds j x || any j l) && not (eqb j k)) n
     ≡ cond (freeState x || holds k x) (count (λ j. any j l && not (eqb j k)) n) (suc (count (λ j. any j l && not (eqb j k)) n))
 unfolding holds
-count-head n k Free l b a = refl
+count-head n k Closed l b a = refl
 count-head n k (Open s) l b a =
-    let σ : Small (s .key) = b .small s refl in
-    count-same _ _ n (λ j _. ap (λ (t : Bool). (t || any j l) && not (eqb j k)) (same-number (s .key) σ j))
-    ∙ count-open n k s l (b .below s refl) (a (keyNumber (s .key)) (same-number (s .key) σ (keyNumber (s .key)) ∙ eq-eqb (keyNumber (s .key)) (keyNumber (s .key)) refl))
-    ∙ ap (λ (t : Bool). cond t (count (λ j. any j l && not (eqb j k)) n) (suc (count (λ j. any j l && not (eqb j k)) n))) (sym (same-number (s .key) σ k))
+    let σ : Small (s .announced .key) = b .small s refl in
+    count-same _ _ n (λ j _. ap (λ (t : Bool). (t || any j l) && not (eqb j k)) (same-number (s .announced .key) σ j))
+    ∙ count-open n k s l (b .below s refl) (a (keyNumber (s .announced .key)) (same-number (s .announced .key) σ (keyNumber (s .announced .key)) ∙ eq-eqb (keyNumber (s .announced .key)) (keyNumber (s .announced .key)) refl))
+    ∙ ap (λ (t : Bool). cond t (count (λ j. any j l && not (eqb j k)) n) (suc (count (λ j. any j l && not (eqb j k)) n))) (sym (same-number (s .announced .key) σ k))
 
 count-nothing : (n : ℕ) → count (λ j. false) n ≡ 0
 unfolding count

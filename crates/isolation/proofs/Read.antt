@@ -23,27 +23,24 @@ use Rattle.multi_pg.specs.declared.Step.{Step}
 use Rattle.multi_pg.specs.declared.Step.the-variants as step
 use Rattle.frame.specs.Pgn.{lowByteOk}
 use Rattle.frame.specs.Refusals.{numberOf}
-use Rattle.receiver.specs.Answers.{answerNumber}
+use Rattle.answer.specs.Answers.{answerNumber}
 use Rattle.transport.specs.declared.Key.{Key}
 use Rattle.transport.specs.declared.control.Control.{Control}
 use Rattle.transport.specs.declared.segment.DataFrame.the-variants as dataframe
 use Rattle.transport.specs.Control.{controlAt, sessionAt, roleAt, keyOf, controlOf}
 use Rattle.transport.specs.Segments.{formatAt, numberAt, segmentAt, dataAt, dataFrameOf}
 use Rattle.receiver.specs.declared.Receiver.{Receiver}
-use Rattle.receiver.specs.declared.answer.Answer.{Answer}
-use Rattle.receiver.specs.declared.answer.Answer.the-variants as answer
-use Rattle.receiver.specs.Calls.{Outcome, answered, refused, onVerdict, groupsStep, controlStep, onControl, onData}
+use Rattle.answer.specs.declared.Answer.{Answer}
+use Rattle.answer.specs.declared.Answer.the-variants as answer
+use Rattle.receiver.specs.Calls.{Outcome, answered, refused, announceStep, statusStep, abortStep, segmentStep, onVerdict, groupsStep, controlStep, onControl, onData}
 use Rattle.isolation.specs.OwnFrames as F
 use Rattle.isolation.specs.OwnFrames.{keyAt, frameKey, Body, segment, controlBody, dataBody, bodyOf}
+use Rattle.session.specs.Effects.{mild}
 use Rattle.isolation.specs.Rules.{Values}
 use Rattle.isolation.specs.Observe.{touches}
 use Rattle.isolation.proofs.Tests.{and-left, and-right, both, same-test}
 use Rattle.isolation.proofs.Slots.{key-of}
 use Rattle.isolation.proofs.Single.{Mine, bodyStep, Reads}
-
--- numbers of refusals that end no session and have nothing to do with bounds
-abbrev pub mild : ℕ → Bool
-mild n = not (eqb n 19 || eqb n 21 || eqb n 23)
 
 -- a frame that is no session's own: it is answered, and nothing changes
 pub record Foreign (r : Receiver) (m : List ℕ) (o : Outcome) : Type 0 where
@@ -71,7 +68,7 @@ module _ (r : Receiver) (d m : List ℕ) (κ : Key) where
   agree-control c c′ b b′ false f g = g
 
   control-agrees : Agrees r d m κ (onControl (controlOf d) r κ, m) (controlBody d)
-  unfolding controlOf controlBody
+  unfolding controlOf controlBody announceStep statusStep abortStep
   control-agrees =
       agree-control _ _ _ _ (not (eqb (length d) 12)) (record { does = foreign r m TransferLength refl })
       (agree-control _ _ _ _ (eqb (controlAt d) 0) (record { does = (refl, tt) })
@@ -81,7 +78,7 @@ module _ (r : Receiver) (d m : List ℕ) (κ : Key) where
       (record { does = foreign r m NotReceivers refl })))))
 
   data-agrees : Agrees r d m κ (onData (dataFrameOf d) r κ d m) (dataBody d)
-  unfolding dataFrameOf dataBody
+  unfolding dataFrameOf dataBody segmentStep
   data-agrees = go (ltb (length d) 5)
     where
       go : (t : Bool) → Agrees r d m κ (onData (cond t (dataframe.Refused TransferLength) (dataframe.Segment (segmentAt d))) r κ d m) (cond t none (some (segment (formatAt d) (numberAt d) (dataAt d))))
@@ -137,10 +134,10 @@ unfolding reading
 reading-mild d = read-mild (suc (length d)) d 0
 
 module _ (r : Receiver) (id : ℕ) (d m : List ℕ) where
-  groups-foreign : (g : Reading) → mildReading g ≡ true → Foreign r m (groupsStep g r, m)
+  groups-foreign : (g : Reading) (ρ : Route) → mildReading g ≡ true → Foreign r m (groupsStep g ρ r, m)
   unfolding touches mildReading
-  groups-foreign (good gs) e = record { answer = answer.Groups; same = refl; quiet = λ j. refl; mildly = refl }
-  groups-foreign (bad n) e = record { answer = answer.Refused n; same = refl; quiet = λ j. refl; mildly = e }
+  groups-foreign (good gs) ρ e = record { answer = answer.Groups ρ; same = refl; quiet = λ j. refl; mildly = refl }
+  groups-foreign (bad n) ρ e = record { answer = answer.Refused n; same = refl; quiet = λ j. refl; mildly = e }
 
   format-agrees : (pf : ℕ) (ρ : Route) → Agrees r d m (keyOf ρ d) (onVerdict (byFormat pf ρ) r d m) (cond (eqb pf 77) (controlBody d) (cond (eqb pf 78) (dataBody d) none))
   unfolding byFormat controlStep
@@ -156,7 +153,7 @@ module _ (r : Receiver) (id : ℕ) (d m : List ℕ) where
           (cond (eqb pf 77) (controlBody d) (cond (eqb pf 78) (dataBody d) none))
       go true e =
           let z : pf ≡ 37 = eqb-true pf 37 e in
-          rw (ne-eqb pf 77 (λ y. omega arith), ne-eqb pf 78 (λ y. omega arith)) (record { does = groups-foreign (reading d) (reading-mild d) })
+          rw (ne-eqb pf 77 (λ y. omega arith), ne-eqb pf 78 (λ y. omega arith)) (record { does = groups-foreign (reading d) ρ (reading-mild d) })
       go false e = other (eqb pf 77) (eqb pf 78)
 
 -- ---- 2, 1, 3
@@ -227,7 +224,10 @@ frame-mine v id d b small e =
     let e₂ : keyAt (identifierOf id .sa .0 * 4096 + identifierOf id .ps * 16 + sessionAt d) .da .0 ≡ identifierOf id .ps = omega arith in
     record {
       own = small;
-      da = rw e₂ da;
-      sa = omega arith;
-      foreign = rw e₁ (not-true (eqb (identifierOf id .sa .0) (v .own .0)) other);
+      taken = record {
+        da = rw e₂ da;
+        sa = omega arith;
+        foreign = rw e₁ (not-true (eqb (identifierOf id .sa .0) (v .own .0)) other);
+        session = omega arith;
+      };
     }

@@ -10,18 +10,19 @@ use Rattle.frame.specs.declared.Address.{Address}
 use Rattle.frame.specs.declared.refusal.Refusal.the-variants.{OutOfBounds}
 use Rattle.frame.specs.Judge.{judged}
 use Rattle.receiver.specs.declared.Receiver.{Receiver}
-use Rattle.receiver.specs.declared.answer.Opening.{Opening}
-use Rattle.receiver.specs.declared.answer.Opening.the-variants.{Accepted, Refused}
-use Rattle.receiver.specs.declared.answer.Kept.the-variants as kept
-use Rattle.receiver.specs.declared.answer.Elapsed.{Elapsed}
+use Rattle.answer.specs.declared.Acceptance.{Acceptance}
+use Rattle.answer.specs.declared.Acceptance.the-variants.{Accepted, Refused}
+use Rattle.answer.specs.declared.Acceptance.the-variants as acceptance
+use Rattle.receiver.specs.Calls.{Elapsed}
 use Rattle.slots.specs.Slots.{freeSlot}
-use Rattle.slots.specs.Bounds.{openingOk, stateOk}
+use Rattle.session.specs.Bounds.{stateOk}
+use Rattle.slots.specs.Bounds.{openingOk}
 use Rattle.receiver.specs.Bounds.{inBounds, opened, openedWith}
 use Rattle.receiver.specs.Calls.{Outcome, refused, isReady, onVerdict, frameAll, readingKept, readingStep, stays}
 use Rattle.isolation.specs.OwnFrames.{keyAt, frameKey, bodyOf}
 use Rattle.isolation.specs.Rules.{Values, State, fresh, Input, Seen, nextState, output, outputs}
 use Rattle.isolation.specs.World.{Event, frame, clock, Call, lent, elsewhere, World, sees, after, worldAfter, told}
-use Rattle.isolation.specs.Observe.{touches, lost, strays, endingOf, endingsOf, keptNumber, readingSeen, isBoundsRefusal, frameElsewhere, readingElsewhere, shows, recordAfter, storeAfter, observed}
+use Rattle.isolation.specs.Observe.{touches, lost, strays, endingOf, endingsOf, readingSeen, isBoundsRefusal, frameElsewhere, readingElsewhere, shows, recordAfter, storeAfter, observed}
 use Rattle.isolation.proofs.Tests.{clash, both}
 use Rattle.isolation.proofs.Slots.{at, holds, holds-free}
 use Rattle.isolation.proofs.Read.{Agrees, frame-agrees}
@@ -41,7 +42,7 @@ unfolding frameAll
 frame-elsewhere r id d b e = rw e
 
 pub reading-elsewhere : (r : Receiver) (t : ℕ) (b : List ℕ) → eqb (length b) 32768 ≡ false
-    → readingStep r t b ≡ record { next = r; answer = kept.Refused OutOfBounds; ends = replicate 8 stays }
+    → readingStep r t b ≡ record { next = r; answer = acceptance.Refused OutOfBounds; ends = replicate 8 stays }
 unfolding readingStep
 reading-elsewhere r t b e = rw e
 
@@ -59,7 +60,7 @@ module _ (v : Values) (r : Receiver) (m : List ℕ) (w : World) (sim : Sim v r m
 
   reading-is : (t : ℕ) → readingStep r t m ≡ readingKept r t
   unfolding readingStep
-  reading-is t = ap (λ (b : Bool). cond b (readingKept r t) (record { next = r; answer = kept.Refused OutOfBounds; ends = replicate 8 stays })) ready
+  reading-is t = ap (λ (b : Bool). cond b (readingKept r t) (record { next = r; answer = acceptance.Refused OutOfBounds; ends = replicate 8 stays })) ready
 
   frame-kept : (id : ℕ) (d : List ℕ) → FrameKeeps v r w id d (frameAll r id d m)
   frame-kept id d =
@@ -83,7 +84,7 @@ module _ (v : Values) (r : Receiver) (m : List ℕ) (w : World) (sim : Sim v r m
   }
 
   reading-else : (t : ℕ) (b : List ℕ) (e : eqb (length b) 32768 ≡ false) → Keeps v r m w (elsewhere b e (clock t))
-  unfolding shows recordAfter storeAfter readingElsewhere keptNumber sees outputs
+  unfolding shows recordAfter storeAfter readingElsewhere sees outputs
   reading-else t b e = record {
     next = subst (λ (o : Elapsed). Sim v (o .next) m (worldAfter v w (elsewhere b e (clock t)))) (sym (reading-elsewhere r t b e)) (world-elsewhere b e (clock t));
     says = λ k. ap (readingElsewhere k r) (reading-elsewhere r t b e) ∙ rw (not-lost k, nothing-ends k);
@@ -140,7 +141,7 @@ open-sim own limit first m g h = record {
   ok = all-free own 8;
 }
 
-isAccepted : Opening → Bool
+isAccepted : Acceptance → Bool
 isAccepted Accepted = true
 isAccepted (Refused n) = false
 

@@ -10,6 +10,8 @@ use Rattle.frame.specs.declared.Address.{Address}
 use Rattle.transport.specs.declared.Kind.{Kind}
 use Rattle.transport.specs.declared.Kind.the-variants.{Rts, Bam}
 use Rattle.transport.specs.declared.control.Announcement.{Announcement}
+use Rattle.transport.specs.Kinds.{isRts}
+use Rattle.progress.specs.Forward.{grantOf}
 use Rattle.session.specs.Announcements as S
 use Rattle.session.specs.Segments.{dueOf}
 use Rattle.session.specs.Ends.{elapsed}
@@ -18,7 +20,7 @@ use Rattle.isolation.specs.Rules as R
 use Rattle.isolation.specs.OwnFrames.{keyAt}
 use Rattle.isolation.proofs.Tests.{or-either, same-test}
 
-pub kind-same : (κ : Kind) → F.isRts κ ≡ S.isRts κ
+pub kind-same : (κ : Kind) → F.isRts κ ≡ isRts κ
 unfolding F.isRts
 kind-same Rts = refl
 kind-same Bam = refl
@@ -31,8 +33,8 @@ pub least-same : (a b : ℕ) → R.least a b ≡ min a b
 unfolding R.least
 least-same a b = least-is a b (leb a b) refl
 
-pub grant-same : (max left : ℕ) → R.grant max left ≡ S.grantOf max left
-unfolding R.grant S.grantOf
+pub grant-same : (max left : ℕ) → R.grant max left ≡ grantOf max left
+unfolding R.grant grantOf
 grant-same max left = rw (least-same max 16) (least-same (min max 16) left)
 
 due-is : (total n : ℕ) → 1 ≤ n → (t : Bool) → leb (60 * n) total ≡ t → cond t 60 (total - 60 * (n - 1)) ≡ min 60 (total - 60 * (n - 1))
@@ -53,7 +55,7 @@ sixties-same n = sixties-is n (eqb (n % 60) 0) refl
 
 pub numbers-same : (a : Announcement) → R.badNumbers a ≡ S.badNumbers a
 unfolding R.badNumbers
-numbers-same a = rw (sixties-same (a .total .0), kind-same (a .kind)) (sym (or-assoc (eqb (a .total .0) 0) (not (eqb (a .segments .0) ((a .total .0 + 59) / 60))) (S.isRts (a .kind) && eqb (a .max) 0)))
+numbers-same a = rw (sixties-same (a .total .0), kind-same (a .kind)) (sym (or-assoc (eqb (a .total .0) 0) (not (eqb (a .segments .0) ((a .total .0 + 59) / 60))) (isRts (a .kind) && eqb (a .max) 0)))
 
 -- a frame that is taken goes to the own address or to 255
 pub misdirected-same : (own : Address) (k : ℕ) (κ : Kind) → own .0 ≤ 253 → (eqb (keyAt k .da .0) (own .0) || eqb (keyAt k .da .0) 255) ≡ true

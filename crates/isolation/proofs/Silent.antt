@@ -7,15 +7,15 @@ use mathlib.Core.List.{List, [], _∷_}
 use lib.Dec.{leb}
 use Rattle.frame.specs.declared.refusal.Refusal.the-variants.{Silence}
 use Rattle.session.specs.declared.Session.{Session}
-use Rattle.session.specs.Announcements as S
+use Rattle.transport.specs.Kinds.{isRts}
 use Rattle.session.specs.Ends.{elapsed}
-use Rattle.slots.specs.declared.SlotState.{SlotState}
-use Rattle.slots.specs.declared.SlotState.the-variants as is
-use Rattle.receiver.specs.declared.answer.End.the-variants as end
+use Rattle.session.specs.declared.State.{State}
+use Rattle.session.specs.declared.State.the-variants as is
+use Rattle.answer.specs.declared.End.the-variants as end
 use Rattle.slots.specs.Slots.{sameKey}
-use Rattle.receiver.specs.Calls as C
-use Rattle.receiver.specs.Calls.{expiredState, endOf}
-use Rattle.receiver.specs.Answers.{abortFor}
+use Rattle.session.specs.Decisions as D
+use Rattle.receiver.specs.Calls.{afterEnd, expiredState, endOf}
+use Rattle.answer.specs.Answers.{abortFor}
 use Rattle.isolation.specs.OwnFrames as F
 use Rattle.isolation.specs.Replies as P
 use Rattle.isolation.specs.OwnFrames.{keyAt}
@@ -32,57 +32,57 @@ unfolding holds
 ses-holds v k s p none m = absurd m
 ses-holds v k s p (some ρ) m = rw (m .0) (own-key k)
 
-pub ses-key : (v : Values) (k : ℕ) (x : SlotState) (p : List ℕ) (y : Option Open) → Ses v k x p y → (j : ℕ) → holds j x ≡ true → j ≡ k
-ses-key v k is.Free p y m j e = unfold holds in (absurd (clash false e refl))
+pub ses-key : (v : Values) (k : ℕ) (x : State) (p : List ℕ) (y : Option Open) → Ses v k x p y → (j : ℕ) → holds j x ≡ true → j ≡ k
+ses-key v k is.Closed p y m j e = unfold holds in (absurd (clash false e refl))
 ses-key v k (is.Open s) p y m j e = holds-one j k (is.Open s) e (ses-holds v k s p y m)
 
-pub ses-shut : (v : Values) (k : ℕ) (x : SlotState) (p : List ℕ) (y : Option Open) → Ses v k x p y → holds k x ≡ false → (x ≡ is.Free) × (y ≡ none)
-ses-shut v k is.Free p none m e = (refl, refl)
-ses-shut v k is.Free p (some ρ) m e = absurd m
+pub ses-shut : (v : Values) (k : ℕ) (x : State) (p : List ℕ) (y : Option Open) → Ses v k x p y → holds k x ≡ false → (x ≡ is.Closed) × (y ≡ none)
+ses-shut v k is.Closed p none m e = (refl, refl)
+ses-shut v k is.Closed p (some ρ) m e = absurd m
 ses-shut v k (is.Open s) p y m e = absurd (clash (holds k (is.Open s)) (ses-holds v k s p y m) e)
 
-pub expire-ses : (v : Values) (t k : ℕ) (x : SlotState) (p : List ℕ) (y : Option Open) → Ses v k x p y → Ses v k (expiredState (v .limit) t x) p (judgedAt v t y)
+pub expire-ses : (v : Values) (t k : ℕ) (x : State) (p : List ℕ) (y : Option Open) → Ses v k x p y → Ses v k (expiredState (v .limit) t x) p (judgedAt v t y)
 unfolding judgedAt isSilent
-expire-ses v t k is.Free p none m = tt
-expire-ses v t k is.Free p (some ρ) m = absurd m
+expire-ses v t k is.Closed p none m = tt
+expire-ses v t k is.Closed p (some ρ) m = absurd m
 expire-ses v t k (is.Open s) p none m = absurd m
 expire-ses v t k (is.Open s) p (some ρ) m = rw (m .0, since-same (ρ .mark) t) (go (leb (v .limit) (elapsed (ρ .mark) t)))
   where
-    go : (b : Bool) → Ses v k (cond b is.Free (is.Open (recordOf k ρ))) p (cond b none (some ρ))
+    go : (b : Bool) → Ses v k (afterEnd (cond b (end.Ended (D.endingOf (recordOf k ρ) Silence)) end.Stays) (is.Open (recordOf k ρ))) p (cond b none (some ρ))
     go true = tt
     go false = (refl, m .1)
 
-pub expire-holds : (limit t k : ℕ) (x : SlotState) → holds k (expiredState limit t x) ≡ true → holds k x ≡ true
+pub expire-holds : (limit t k : ℕ) (x : State) → holds k (expiredState limit t x) ≡ true → holds k x ≡ true
 unfolding holds
-expire-holds limit t k is.Free e = e
-expire-holds limit t k (is.Open s) e = go (leb limit (elapsed (s .mark) t)) e
+expire-holds limit t k is.Closed e = e
+expire-holds limit t k (is.Open s) e = go (leb limit (elapsed (s .progress .mark) t)) e
   where
-    go : (b : Bool) → holds k (cond b is.Free (is.Open s)) ≡ true → sameKey (s .key) (keyAt k) ≡ true
+    go : (b : Bool) → holds k (afterEnd (cond b (end.Ended (D.endingOf s Silence)) end.Stays) (is.Open s)) ≡ true → sameKey (s .announced .key) (keyAt k) ≡ true
     go true e = absurd (clash false e refl)
     go false e = e
 
-end-same : (k : ℕ) (ρ : Open) → endReply (C.endingOf (recordOf k ρ) Silence) ≡ ending k (ρ .told) 22
+end-same : (k : ℕ) (ρ : Open) → endReply (D.endingOf (recordOf k ρ) Silence) ≡ ending k (ρ .told) 22
 unfolding endReply ending
 end-same k ρ =
     ap (λ (w : Option P.Wire). record { number = 22; says = P.ended (keyAt k) (ρ .told .kind) (ρ .told .pgn); sends = w })
-    (wire-cond (S.isRts (ρ .told .kind)) (F.isRts (ρ .told .kind)) (abortFor (keyAt k) Silence (ρ .told .pgn)) (kind-same (ρ .told .kind)))
+    (wire-cond (isRts (ρ .told .kind)) (F.isRts (ρ .told .kind)) (abortFor (keyAt k) Silence (ρ .told .pgn)) (kind-same (ρ .told .kind)))
 
-pub ends-own : (v : Values) (t k : ℕ) (x : SlotState) (p : List ℕ) (y : Option Open) → Ses v k x p y → endingOf k (endOf (v .limit) t x) ≡ endsAt v k t y
+pub ends-own : (v : Values) (t k : ℕ) (x : State) (p : List ℕ) (y : Option Open) → Ses v k x p y → endingOf k (endOf (v .limit) t x) ≡ endsAt v k t y
 unfolding endingOf endsAt isSilent
-ends-own v t k is.Free p none m = refl
-ends-own v t k is.Free p (some ρ) m = absurd m
+ends-own v t k is.Closed p none m = refl
+ends-own v t k is.Closed p (some ρ) m = absurd m
 ends-own v t k (is.Open s) p none m = absurd m
 ends-own v t k (is.Open s) p (some ρ) m = rw (m .0, since-same (ρ .mark) t) (go (leb (v .limit) (elapsed (ρ .mark) t)))
   where
-    go : (b : Bool) → endingOf k (cond b (end.Ended (C.endingOf (recordOf k ρ) Silence)) end.Stays) ≡ cond b (ending k (ρ .told) 22 ∷ []) []
+    go : (b : Bool) → endingOf k (cond b (end.Ended (D.endingOf (recordOf k ρ) Silence)) end.Stays) ≡ cond b (ending k (ρ .told) 22 ∷ []) []
     go true = rw (own-key k) (ap (λ (e : Reply). e ∷ []) (end-same k ρ))
     go false = refl
 
-pub ends-other : (limit t k : ℕ) (x : SlotState) → holds k x ≡ false → endingOf k (endOf limit t x) ≡ []
+pub ends-other : (limit t k : ℕ) (x : State) → holds k x ≡ false → endingOf k (endOf limit t x) ≡ []
 unfolding endingOf holds
-ends-other limit t k is.Free e = refl
-ends-other limit t k (is.Open s) e = go (leb limit (elapsed (s .mark) t))
+ends-other limit t k is.Closed e = refl
+ends-other limit t k (is.Open s) e = go (leb limit (elapsed (s .progress .mark) t))
   where
-    go : (b : Bool) → endingOf k (cond b (end.Ended (C.endingOf s Silence)) end.Stays) ≡ []
+    go : (b : Bool) → endingOf k (cond b (end.Ended (D.endingOf s Silence)) end.Stays) ≡ []
     go true = rw e
     go false = refl

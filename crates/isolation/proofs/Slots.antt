@@ -11,8 +11,8 @@ use borrow.Author.Tests.{eqb-true, eq-eqb}
 use Rattle.transport.specs.declared.Key.{Key}
 use Rattle.session.specs.declared.Session.{Session}
 use Rattle.slots.specs.declared.Slot.{Slot}
-use Rattle.slots.specs.declared.SlotState.{SlotState}
-use Rattle.slots.specs.declared.SlotState.the-variants.{Free, Open}
+use Rattle.session.specs.declared.State.{State}
+use Rattle.session.specs.declared.State.the-variants.{Closed, Open}
 use Rattle.slots.specs.declared.Found.{Found}
 use Rattle.slots.specs.declared.Found.the-variants.{At, Nothing}
 use Rattle.slots.specs.Slots.{sameKey, freeState, isFree, stateHolds, holdsKey, firstAt, firstFree, keyPlace, freeSlot}
@@ -23,17 +23,17 @@ use Rattle.isolation.proofs.Tests.{or-false, clash, and-left, and-right
 abbrev pub Slots : Type 0
 Slots = List Slot
 
-abbrev pub at : Slots → ℕ → SlotState
+abbrev pub at : Slots → ℕ → State
 at l i = getD l i freeSlot .state
 
 -- a slot holds key k
-unfoldable pub holds : ℕ → SlotState → Bool
+unfoldable pub holds : ℕ → State → Bool
 holds k x = openAt k x
 
 -- as the receiver tests it
-pub holds-same : (k : ℕ) (x : SlotState) → stateHolds (keyAt k) x ≡ holds k x
+pub holds-same : (k : ℕ) (x : State) → stateHolds (keyAt k) x ≡ holds k x
 unfolding holds
-holds-same k Free = refl
+holds-same k Closed = refl
 holds-same k (Open s) = refl
 
 -- ---- keys and their numbers
@@ -94,17 +94,17 @@ own-key k = keys-same (keyAt k) (keyAt k) refl
 
 -- ---- what a slot holds
 
-pub open-key : (k : ℕ) (s : Session) → holds k (Open s) ≡ true → s .key ≡ keyAt k
+pub open-key : (k : ℕ) (s : Session) → holds k (Open s) ≡ true → s .announced .key ≡ keyAt k
 unfolding holds
-open-key k s e = same-keys (s .key) (keyAt k) e
+open-key k s e = same-keys (s .announced .key) (keyAt k) e
 
-pub holds-one : (j k : ℕ) (x : SlotState) → holds j x ≡ true → holds k x ≡ true → j ≡ k
+pub holds-one : (j k : ℕ) (x : State) → holds j x ≡ true → holds k x ≡ true → j ≡ k
 unfolding holds
-holds-one j k Free e f = absurd (clash false e refl)
+holds-one j k Closed e f = absurd (clash false e refl)
 holds-one j k (Open s) e f =
-    sym (number-of j) ∙ ap keyNumber (sym (same-keys (s .key) (keyAt j) e) ∙ same-keys (s .key) (keyAt k) f) ∙ number-of k
+    sym (number-of j) ∙ ap keyNumber (sym (same-keys (s .announced .key) (keyAt j) e) ∙ same-keys (s .announced .key) (keyAt k) f) ∙ number-of k
 
-pub holds-free : (k : ℕ) → holds k Free ≡ false
+pub holds-free : (k : ℕ) → holds k Closed ≡ false
 unfolding holds
 holds-free k = refl
 
@@ -153,11 +153,11 @@ pub find-none : (k : ℕ) (l : Slots) → keyPlace (keyAt k) l ≡ Nothing → (
 find-none k l e i =
     or-false (holds k (at l i)) (λ t. clash (holds k (at l i)) t (sym (holds-same k (at l i)) ∙ from-none (holdsKey (keyAt k)) l 0 e i (holds-inside k l i t)))
 
-pub lowest-some : (l : Slots) (i : ℕ) → firstFree l ≡ At i → (at l i ≡ Free) × (i < length l)
+pub lowest-some : (l : Slots) (i : ℕ) → firstFree l ≡ At i → (at l i ≡ Closed) × (i < length l)
 lowest-some l i e = let r = first-some isFree l i e in (free (at l i) (r .0), r .1)
   where
-    free : (x : SlotState) → freeState x ≡ true → x ≡ Free
-    free Free e = refl
+    free : (x : State) → freeState x ≡ true → x ≡ Closed
+    free Closed e = refl
     free (Open s) e = absurd (clash false e refl)
 
 pub lowest-none : (l : Slots) → firstFree l ≡ Nothing → (i : ℕ) → i < length l → freeState (at l i) ≡ false

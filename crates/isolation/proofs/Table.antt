@@ -9,21 +9,23 @@ use Rattle.transport.specs.declared.Key.{Key}
 use Rattle.transport.specs.declared.Kind.the-variants.{Rts}
 use Rattle.transport.specs.Control.{controlOf}
 use Rattle.transport.specs.Segments.{dataFrameOf}
-use Rattle.session.specs.Announcements.{formOf, grantOf}
+use Rattle.progress.specs.Forward.{grantOf}
+use Rattle.session.specs.Announcements.{formOf}
+use Rattle.session.specs.Decisions.{announcedTo, segmentTo, endingOf}
 use Rattle.session.specs.Segments.{dueOf, judgedOf}
 use Rattle.session.specs.Ends.{elapsed}
 use Rattle.session.specs.declared.Session.{Session}
 use Rattle.receiver.specs.declared.Receiver.{Receiver}
-use Rattle.slots.specs.declared.SlotState.the-variants as is
-use Rattle.receiver.specs.declared.answer.Answer.{Answer}
-use Rattle.receiver.specs.declared.answer.Answer.the-variants.{Groups, Opened, Taken, Grant, HandedOver, Aborted, Ended, RefusedRts, Refused}
-use Rattle.receiver.specs.declared.answer.End.the-variants as end
-use Rattle.receiver.specs.declared.answer.Kept.the-variants as kept
+use Rattle.session.specs.declared.State.the-variants as is
+use Rattle.answer.specs.declared.Answer.{Answer}
+use Rattle.answer.specs.declared.Answer.the-variants.{Groups, Opened, Taken, Grant, HandedOver, Aborted, Ended, RefusedRts, Refused}
+use Rattle.answer.specs.declared.End.the-variants as end
+use Rattle.answer.specs.declared.Acceptance.the-variants as acceptance
 use Rattle.slots.specs.Slots.{freeSlot}
 use Rattle.slots.specs.Bounds.{slotsOk}
 use Rattle.receiver.specs.Bounds.{inBounds, opened}
-use Rattle.receiver.specs.Calls.{Outcome, takeSlot, announceStep, controlStep, segmentOpen, segmentStep, frameAll, readingStep, stays, endingOf}
-use Rattle.receiver.specs.Answers.{answerNumber}
+use Rattle.receiver.specs.Calls.{Outcome, announceStep, controlStep, segmentStep, frameAll, readingStep, stays}
+use Rattle.answer.specs.Answers.{answerNumber}
 
 -- own address 33, limit 1,250, reading 0; the RTS are session 3's, from SA 128, for PGN 65226
 pub r : Receiver
@@ -45,7 +47,7 @@ toRts d = frameAll r 0x1C4D2180 d m .0 .answer
 -- ---- the grants of a whole message
 
 pub countOf : Answer → List ℕ
-countOf Groups = []
+countOf (Groups route) = []
 countOf (Opened k) = []
 countOf (Taken t) = []
 countOf (Grant c) = c .count ∷ []
@@ -77,15 +79,15 @@ allGrants d =
 pub session : Session
 session =
     record {
-      key = key;
-      kind = Rts;
-      total = record { 0 = 61 };
-      segments = record { 0 = 2 };
-      max = 255;
-      pgn = 65226;
-      next = record { 0 = 1 };
-      granted = record { 0 = 2 };
-      mark = 4294967290;
+      announced = record {
+        key = key;
+        kind = Rts;
+        total = record { 0 = 61 };
+        segments = record { 0 = 2 };
+        max = 255;
+        pgn = 65226;
+      };
+      progress = record { next = record { 0 = 1 }; granted = record { 0 = 2 }; mark = 4294967290 };
     }
 
 pub held : Receiver
@@ -114,19 +116,19 @@ pub record Rows : Type 0 where
   pub p12-stays : readingStep held 1243 m
       ≡ record {
         next = record { own = held .own; limit = 1250; last = 1243; slots = held .slots };
-        answer = kept.Kept;
+        answer = acceptance.Accepted;
         ends = replicate 8 stays;
       }
   -- reading 1,244: it ends with 22
   pub p12-ends : readingStep held 1244 m
       ≡ record {
         next = record { own = held .own; limit = 1250; last = 1244; slots = replicate 8 freeSlot };
-        answer = kept.Kept;
+        answer = acceptance.Accepted;
         ends = record { end = end.Ended (endingOf session Silence) } ∷ replicate 7 stays;
       }
 
 pub rows : Rows
-unfolding r m key rts toRts opened inBounds slotsOk frameAll judged byFormat controlStep controlOf announceStep formOf takeSlot grantOf allGrants grants countOf dt dataFrameOf segmentStep segmentOpen judgedOf dueOf session held readingStep elapsed
+unfolding r m key rts toRts opened inBounds slotsOk frameAll judged byFormat controlStep controlOf announceStep formOf announcedTo grantOf allGrants grants countOf dt dataFrameOf segmentStep segmentTo judgedOf dueOf session held readingStep elapsed
 rows =
     record {
       p8 = refl;

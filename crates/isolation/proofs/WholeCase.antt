@@ -11,18 +11,20 @@ use Rattle.transport.specs.Control.{controlOf}
 use Rattle.transport.specs.Segments.{dataFrameOf}
 use Rattle.transport.specs.Responses.{responseBytes, replyId}
 use Rattle.transport.specs.Reasons.{reasonOf}
-use Rattle.session.specs.Announcements.{formOf, grantOf}
+use Rattle.progress.specs.Forward.{grantOf}
+use Rattle.session.specs.Announcements.{formOf}
+use Rattle.session.specs.Decisions.{announcedTo, segmentTo}
 use Rattle.session.specs.Segments.{dueOf, judgedOf}
 use Rattle.session.specs.Ends.{elapsed}
-use Rattle.receiver.specs.declared.answer.Opening.the-variants.{Accepted}
+use Rattle.answer.specs.declared.Acceptance.the-variants.{Accepted}
 use Rattle.slots.specs.Bounds.{slotsOk}
 use Rattle.receiver.specs.Bounds.{inBounds, opened}
-use Rattle.receiver.specs.Calls.{takeSlot, announceStep, controlStep, segmentOpen, segmentStep, frameAll, readingStep}
+use Rattle.receiver.specs.Calls.{announceStep, controlStep, segmentStep, frameAll, readingStep}
 use Rattle.isolation.specs.OwnFrames.{keyAt, frameKey, bodyOf, taken, controlBody, dataBody}
 use Rattle.isolation.specs.Replies.{granted, ended}
 use Rattle.isolation.specs.Rules.{answer, reading}
 use Rattle.isolation.specs.World.{Call, lent, frame, clock}
-use Rattle.isolation.specs.Observe.{observed, shows, recordAfter, storeAfter, frameSeen, isOwn, isBody, strays, lost, openIn, touches, replyOf, saysOf, readingSeen, keptNumber, endingsOf, endingOf}
+use Rattle.isolation.specs.Observe.{observed, shows, recordAfter, storeAfter, frameSeen, isOwn, isBody, strays, lost, openIn, touches, replyOf, saysOf, readingSeen, endingsOf, endingOf}
 
 k : ℕ
 k = 128 * 4096 + 33 * 16 + 3
@@ -54,5 +56,5 @@ whole-case : observed (record { own = record { 0 = 33 }; limit = 1250 }) k (open
       sends = some (0x1C4D8021, 0x3F ∷ 255 ∷ 255 ∷ 255 ∷ 255 ∷ 255 ∷ 255 ∷ 253 ∷ 7 ∷ 0xCA ∷ 0xFE ∷ 0 ∷ []);
     })
     ∷ []
-unfolding opened inBounds slotsOk frameAll judged byFormat controlStep controlOf announceStep formOf takeSlot grantOf dataFrameOf segmentStep segmentOpen judgedOf dueOf readingStep elapsed Groups.reading Groups.readFrom responseBytes replyId reasonOf k calls observed shows recordAfter storeAfter frameSeen isOwn isBody strays lost openIn touches replyOf saysOf readingSeen keptNumber endingsOf endingOf frameKey bodyOf taken controlBody dataBody
+unfolding opened inBounds slotsOk frameAll judged byFormat controlStep controlOf announceStep formOf announcedTo grantOf dataFrameOf segmentStep segmentTo judgedOf dueOf readingStep elapsed Groups.reading Groups.readFrom responseBytes replyId reasonOf k calls observed shows recordAfter storeAfter frameSeen isOwn isBody strays lost openIn touches replyOf saysOf readingSeen endingsOf endingOf frameKey bodyOf taken controlBody dataBody
 whole-case = refl

@@ -8,19 +8,17 @@ use Rattle.frame.specs.Refusals.{numberOf}
 use Rattle.transport.specs.declared.Key.{Key}
 use Rattle.receiver.specs.declared.Receiver.{Receiver}
 use Rattle.slots.specs.declared.Slot.{Slot}
-use Rattle.slots.specs.declared.SlotState.{SlotState}
-use Rattle.slots.specs.declared.SlotState.the-variants as slot
-use Rattle.receiver.specs.declared.answer.Ending.{Ending}
-use Rattle.receiver.specs.declared.answer.Answer.{Answer}
-use Rattle.receiver.specs.declared.answer.Answer.the-variants.{Groups, Opened, Taken, Grant, HandedOver, Aborted, Ended, RefusedRts, Refused}
-use Rattle.receiver.specs.declared.answer.End.{End}
-use Rattle.receiver.specs.declared.answer.End.the-variants as end
-use Rattle.receiver.specs.declared.answer.SlotEnd.{SlotEnd}
-use Rattle.receiver.specs.declared.answer.Kept.{Kept}
-use Rattle.receiver.specs.declared.answer.Kept.the-variants as kept
-use Rattle.receiver.specs.declared.answer.Elapsed.{Elapsed}
+use Rattle.session.specs.declared.State.{State}
+use Rattle.session.specs.declared.State.the-variants as slot
+use Rattle.answer.specs.declared.Ending.{Ending}
+use Rattle.answer.specs.declared.Answer.{Answer}
+use Rattle.answer.specs.declared.Answer.the-variants.{Groups, Opened, Taken, Grant, HandedOver, Aborted, Ended, RefusedRts, Refused}
+use Rattle.answer.specs.declared.End.{End}
+use Rattle.answer.specs.declared.End.the-variants as end
+use Rattle.answer.specs.declared.SlotEnd.{SlotEnd}
+use Rattle.receiver.specs.Calls.{Elapsed}
 use Rattle.receiver.specs.Calls.{Outcome, frameAll, readingStep}
-use Rattle.receiver.specs.Answers.{answerNumber, answerSends, endSends, wireOf, messageBytes}
+use Rattle.answer.specs.Answers.{answerNumber, acceptanceNumber, answerSends, endSends, wireOf, messageBytes}
 use Rattle.isolation.specs.OwnFrames.{keyAt, frameKey, Body, bodyOf}
 use Rattle.isolation.specs.Replies.{Reply, Says, nothing, opened, took, granted, handed, aborted, ended, rejected}
 use Rattle.isolation.specs.Rules.{Values, Seen, answer, reading, stray}
@@ -33,9 +31,9 @@ abbrev pub isKey : ℕ → Key → Bool
 isKey k κ =
     eqb (κ .sa .0) (keyAt k .sa .0) && eqb (κ .da .0) (keyAt k .da .0) && eqb (κ .session .0) (keyAt k .session .0)
 
-abbrev pub openAt : ℕ → SlotState → Bool
-openAt k slot.Free = false
-openAt k (slot.Open s) = isKey k (s .key)
+abbrev pub openAt : ℕ → State → Bool
+openAt k slot.Closed = false
+openAt k (slot.Open s) = isKey k (s .announced .key)
 
 -- some slot has the key open
 unfoldable pub openIn : ℕ → List Slot → Bool
@@ -45,7 +43,7 @@ openIn k (s ∷ ss) = openAt k (s .state) || openIn k ss
 -- ---- answers
 
 unfoldable pub saysOf : Answer → List ℕ → Says
-saysOf Groups m = nothing
+saysOf (Groups route) m = nothing
 saysOf (Opened k) m = opened k
 saysOf (Taken t) m = took (t .key) (t .number .0)
 saysOf (Grant c) m = granted (c .key) (c .next .0) (c .count) (c .pgn)
@@ -61,7 +59,7 @@ replyOf a m = record { number = answerNumber a; says = saysOf a m; sends = wireO
 
 -- an answer that ends the key's session or hands over for it
 unfoldable pub touches : ℕ → Answer → Bool
-touches k Groups = false
+touches k (Groups route) = false
 touches k (Opened j) = false
 touches k (Taken t) = false
 touches k (Grant c) = false
@@ -113,18 +111,14 @@ unfoldable pub endingsOf : ℕ → List SlotEnd → List Reply
 endingsOf k [] = []
 endingsOf k (s ∷ ss) = endingOf k (s .end) ++ endingsOf k ss
 
-unfoldable pub keptNumber : Kept → ℕ
-keptNumber kept.Kept = 0
-keptNumber (kept.Refused n) = numberOf n
-
 unfoldable pub readingSeen : ℕ → Elapsed → List Seen
-readingSeen k e = reading (keptNumber (e .answer)) (endingsOf k (e .ends)) ∷ []
+readingSeen k e = reading (acceptanceNumber (e .answer)) (endingsOf k (e .ends)) ∷ []
 
 -- ---- a call that is lent another buffer: left out because its answer is 23
 
 unfoldable pub isBoundsRefusal : Answer → Bool
 isBoundsRefusal (Refused n) = eqb (numberOf n) 23
-isBoundsRefusal Groups = false
+isBoundsRefusal (Groups route) = false
 isBoundsRefusal (Opened k) = false
 isBoundsRefusal (Taken t) = false
 isBoundsRefusal (Grant c) = false
@@ -139,7 +133,7 @@ frameElsewhere v k r id d o =
 
 unfoldable pub readingElsewhere : ℕ → Receiver → Elapsed → List Seen
 readingElsewhere k r e =
-    cond (eqb (keptNumber (e .answer)) 23 && not (lost k r (e .next))) (map stray (endingsOf k (e .ends)))
+    cond (eqb (acceptanceNumber (e .answer)) 23 && not (lost k r (e .next))) (map stray (endingsOf k (e .ends)))
     (readingSeen k e)
 
 -- ---- calls, made one after another: each gets the record that the last one returned, and the store that it left or another buffer

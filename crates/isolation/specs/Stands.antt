@@ -4,8 +4,8 @@ use mathlib.Core.Option.{Option, none, some}
 use mathlib.Core.List.{List, [], _∷_}
 use lib.ListN.{getD, take, drop}
 use Rattle.receiver.specs.declared.Receiver.{Receiver}
-use Rattle.slots.specs.declared.SlotState.{SlotState}
-use Rattle.slots.specs.declared.SlotState.the-variants as slot
+use Rattle.session.specs.declared.State.{State}
+use Rattle.session.specs.declared.State.the-variants as slot
 use Rattle.slots.specs.Slots.{keyPlace, freeSlot, onFound}
 use Rattle.isolation.specs.OwnFrames.{keyAt}
 use Rattle.isolation.specs.Rules.{Values, Open, Piece, due}
@@ -21,21 +21,21 @@ piecesOf i m total (suc n) =
     record { number = suc n; bytes = take (due total (suc n)) (drop (4096 * i + 60 * n) m) } ∷ piecesOf i m total n
 
 -- the segments below the next are in; no session announces assurance data
-unfoldable pub openOf : ℕ → List ℕ → SlotState → Option Open
-openOf i m slot.Free = none
+unfoldable pub openOf : ℕ → List ℕ → State → Option Open
+openOf i m slot.Closed = none
 openOf i m (slot.Open s) =
     some (record {
       told = record {
-        kind = s .kind;
-        total = s .total;
-        segments = s .segments;
-        max = s .max;
+        kind = s .announced .kind;
+        total = s .announced .total;
+        segments = s .announced .segments;
+        max = s .announced .max;
         assurance = 0;
-        pgn = s .pgn;
+        pgn = s .announced .pgn;
       };
-      mark = s .mark;
-      granted = s .granted .0;
-      pieces = piecesOf i m (s .total .0) (s .next .0 - 1);
+      mark = s .progress .mark;
+      granted = s .progress .granted .0;
+      pieces = piecesOf i m (s .announced .total .0) (s .progress .next .0 - 1);
     })
 
 unfoldable pub standsFor : Receiver → List ℕ → World

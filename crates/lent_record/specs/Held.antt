@@ -1,5 +1,5 @@
 -- A slot of a record, by its bytes.
-use Prim.Native.Nat.{ℕ, _+_, _*_, _<_}
+use Prim.Native.Nat.{ℕ, _+_, _<_}
 use native.Mathlib.Omega.{arith}
 use mathlib.Core.Path.{_≡_, refl, sym, ap, _∙_}
 use mathlib.Core.Bool.{Bool, true, false, cond, not, _&&_}
@@ -8,25 +8,26 @@ use lib.Dec.{eqb}
 use lib.ListN.{length, getD, drop, length-map, List·getD-map}
 use Rattle.transport.specs.declared.Key.{Key}
 use Rattle.session.specs.declared.Session.{Session}
-use Rattle.slots.specs.declared.SlotState.the-variants.{Free, Open}
+use Rattle.session.specs.declared.State.the-variants.{Closed, Open}
 use Rattle.slots.specs.Slots.{freeSlot, freeState, isFree, stateHolds, holdsKey}
+use Rattle.record_bytes.specs.Places.{headLength, slotLength, slotPlace}
 use Rattle.record_bytes.specs.Layout.{sessionAt, slotAt, piecesOf, slotsAt}
 use Rattle.record_bytes.specs.Pieces.{length-pieces, byte-of}
 
 pub length-slots : (b : List ℕ) → length (slotsAt b) ≡ 8
-length-slots b = length-map (piecesOf b) slotAt ∙ length-pieces 8 (drop 9 b)
+length-slots b = length-map (piecesOf b) slotAt ∙ length-pieces 8 (drop headLength b)
 
 pub slot-of : (b : List ℕ) (i : ℕ) → getD (slotsAt b) i freeSlot ≡ slotAt (getD (piecesOf b) i [])
 slot-of b i = List·getD-map slotAt (piecesOf b) i []
 
-free-when : (s : Session) (t : Bool) → not t ≡ freeState (cond t (Open s) Free)
+free-when : (s : Session) (t : Bool) → not t ≡ freeState (cond t (Open s) Closed)
 free-when s true = refl
 free-when s false = refl
 
 -- a slot is free unless its first byte says that it is open
-pub freed : (b : List ℕ) (i : ℕ) → i < 8 → not (eqb (getD b (9 + 30 * i) 0) 1) ≡ isFree (getD (slotsAt b) i freeSlot)
+pub freed : (b : List ℕ) (i : ℕ) → i < 8 → not (eqb (getD b (slotPlace i) 0) 1) ≡ isFree (getD (slotsAt b) i freeSlot)
 freed b i h =
-    let at : ℕ = 9 + 30 * i in
+    let at : ℕ = slotPlace i in
     let p : List ℕ = getD (piecesOf b) i [] in
     let e : at ≡ at + 0 = omega arith in
     ap (λ (x : ℕ). not (eqb x 1)) (ap (λ (n : ℕ). getD b n 0) e ∙ sym (byte-of b i 0 h (omega arith)))
@@ -41,7 +42,9 @@ keyOpenAt k b at =
     && eqb (getD b (at + 3) 0) (k .da .0)
     && eqb (getD b (at + 4) 0) (k .session .0)
 
-holds-when : (k : Key) (s : Session) (t : Bool) → (t && eqb (s .key .sa .0) (k .sa .0) && eqb (s .key .da .0) (k .da .0) && eqb (s .key .session .0) (k .session .0)) ≡ stateHolds k (cond t (Open s) Free)
+holds-when : (k : Key) (s : Session) (t : Bool)
+    → (let h : Key = s .announced .key in
+    (t && eqb (h .sa .0) (k .sa .0) && eqb (h .da .0) (k .da .0) && eqb (h .session .0) (k .session .0)) ≡ stateHolds k (cond t (Open s) Closed))
 holds-when k s true = refl
 holds-when k s false = refl
 
@@ -49,21 +52,11 @@ same-tests : {x x′ y y′ z z′ w w′ : ℕ} → x ≡ x′ → y ≡ y′ �
     → (eqb x 1 && eqb y (k .sa .0) && eqb z (k .da .0) && eqb w (k .session .0)) ≡ (eqb x′ 1 && eqb y′ (k .sa .0) && eqb z′ (k .da .0) && eqb w′ (k .session .0))
 same-tests p q r s k = rw (p, q, r, s)
 
-pub held : (k : Key) (b : List ℕ) (i at : ℕ) → i < 8 → at ≡ 9 + 30 * i → keyOpenAt k b at ≡ holdsKey k (getD (slotsAt b) i freeSlot)
+pub held : (k : Key) (b : List ℕ) (i at : ℕ) → i < 8 → at ≡ slotPlace i → keyOpenAt k b at ≡ holdsKey k (getD (slotsAt b) i freeSlot)
 held k b i at h e =
     let p : List ℕ = getD (piecesOf b) i [] in
-    let of : (j n : ℕ) → j < 30 → n ≡ 9 + 30 * i + j → getD b n 0 ≡ getD p j 0 =
+    let of : (j n : ℕ) → j < slotLength → n ≡ slotPlace i + j → getD b n 0 ≡ getD p j 0 =
     λ j n l q. ap (λ (m : ℕ). getD b m 0) q ∙ sym (byte-of b i j h l) in
     same-tests (of 0 at (omega arith) (omega arith)) (of 2 (at + 2) (omega arith) (omega arith)) (of 3 (at + 3) (omega arith) (omega arith)) (of 4 (at + 4) (omega arith) (omega arith)) k
     ∙ holds-when k (sessionAt p) (eqb (getD p 0 0) 1)
     ∙ ap (holdsKey k) (sym (slot-of b i))
-
--- the tests of a key one after the other
-pub no-first : (a b c d : Bool) → a ≡ false → false ≡ (a && b && c && d)
-no-first a b c d e = rw e
-
-pub no-second : (a b c d : Bool) → a ≡ true → b ≡ false → false ≡ (a && b && c && d)
-no-second a b c d e f = rw (e, f)
-
-pub both-hold : (a b c d : Bool) → a ≡ true → b ≡ true → (c && d) ≡ (a && b && c && d)
-both-hold a b c d e f = rw (e, f)

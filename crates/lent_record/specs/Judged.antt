@@ -1,19 +1,22 @@
 -- A record's pieces judged one after the other, and that this is the judgement of codes and slots.
-use Prim.Native.Nat.{ℕ, zero, suc, _+_, _*_, _<_}
+use Prim.Native.Nat.{ℕ, zero, suc, _+_, _<_}
 use native.Mathlib.Omega.{arith}
 use mathlib.Core.Path.{_≡_, refl, sym, ap, _∙_}
-use mathlib.Core.Bool.{Bool, true, false, cond, not, _&&_, _||_, false≢true}
+use mathlib.Core.Bool.{Bool, true, false, cond, not, _&&_, _||_, false≢true, and-true, and-assoc}
 use mathlib.Core.List.{List, [], _∷_, map}
 use lib.Dec.{eqb}
 use lib.ListN.{length, getD, take, drop}
 use borrow.Author.Tests.{eqb-true}
+use Rattle.laws.specs.Bools.{and-same, and-left-comm, guarded}
 use Rattle.laws.specs.Turn.{turn, end}
 use Rattle.frame.specs.declared.Address.{Address}
 use Rattle.session.specs.declared.Session.{Session}
 use Rattle.slots.specs.declared.Slot.{Slot}
-use Rattle.slots.specs.declared.SlotState.the-variants.{Free, Open}
-use Rattle.slots.specs.Bounds.{openingOk, sessionOk, stateOk, anyHolds, stateTwin, slotsOk}
+use Rattle.session.specs.declared.State.the-variants.{Closed, Open}
+use Rattle.session.specs.Bounds.{sessionOk, stateOk}
+use Rattle.slots.specs.Bounds.{openingOk, anyHolds, stateTwin, slotsOk}
 use Rattle.receiver.specs.Bounds.{inBounds}
+use Rattle.record_bytes.specs.Places.{recordLength, headLength, slotLength, slotPlace}
 use Rattle.record_bytes.specs.Layout.{codesOk, sessionAt, slotAt, piecesOf, slotsAt, codesAll, isRecord, recordAt}
 use Rattle.record_bytes.specs.Pieces.{length-pieces, piece-of, byte-of}
 use Rattle.lent_record.specs.Ready.{readyIn}
@@ -21,7 +24,7 @@ use Rattle.lent_record.specs.Ready.{readyIn}
 -- a slot whose first byte is not 0, with the pieces after it
 unfoldable pub openReady : Address → List ℕ → List (List ℕ) → Bool
 openReady own p ps =
-    codesOk (getD p 0 0) (getD p 1 0) && sessionOk own (sessionAt p) && not (anyHolds (sessionAt p .key) (map slotAt ps))
+    codesOk (getD p 0 0) (getD p 1 0) && sessionOk own (sessionAt p) && not (anyHolds (sessionAt p .announced .key) (map slotAt ps))
 
 unfoldable pub piecesReady : Address → List (List ℕ) → Bool
 piecesReady own [] = true
@@ -30,20 +33,21 @@ piecesReady own (p ∷ ps) = (eqb (getD p 0 0) 0 || openReady own p ps) && piece
 -- ---- the same as all codes, and then all slots
 
 in-order : (q o t c s : Bool) → (q && o && not t && (c && s)) ≡ (cond (not q) false c && (o && not t && s))
-in-order true true true true s = refl
-in-order true true true false s = refl
-in-order true true false c s = refl
-in-order true false t true s = refl
-in-order true false t false s = refl
-in-order false o t c s = refl
+in-order q o t c s =
+    let x : Bool = o && not t in
+    ap (λ (u : Bool). u && (c && s)) (and-assoc q o (not t))
+    ∙ and-assoc q x (c && s)
+    ∙ ap (λ (u : Bool). q && u) (and-left-comm x c s)
+    ∙ sym (and-assoc q c (x && s))
+    ∙ ap (λ (u : Bool). u && (x && s)) (sym (guarded q c))
 
 -- x: the first byte is 0; y: it is 1; q: the second is a kind
 by-code : (own : Address) (s : Session) (ss : List Slot) (x y q c r : Bool) → (x ≡ true → y ≡ true → false ≡ true)
-    → ((x || ((x || (y && q)) && sessionOk own s && not (anyHolds (s .key) ss))) && (c && r))
-    ≡ (cond (not (x || (y && q))) false c && (stateOk own (cond y (Open s) Free) && not (stateTwin (cond y (Open s) Free) ss) && r))
+    → ((x || ((x || (y && q)) && sessionOk own s && not (anyHolds (s .announced .key) ss))) && (c && r))
+    ≡ (cond (not (x || (y && q))) false c && (stateOk own (cond y (Open s) Closed) && not (stateTwin (cond y (Open s) Closed) ss) && r))
 by-code own s ss true true q c r only = absurd (false≢true (only refl refl))
 by-code own s ss true false q c r only = refl
-by-code own s ss false true q c r only = in-order q (sessionOk own s) (anyHolds (s .key) ss) c r
+by-code own s ss false true q c r only = in-order q (sessionOk own s) (anyHolds (s .announced .key) ss) c r
 by-code own s ss false false q c r only = refl
 
 two-codes : (n : ℕ) → eqb n 0 ≡ true → eqb n 1 ≡ true → false ≡ true
@@ -55,13 +59,13 @@ pieces-ready own [] = refl
 pieces-ready own (p ∷ ps) =
     let n : ℕ = getD p 0 0 in
     let k : ℕ = getD p 1 0 in
-    ap (λ (t : Bool). (eqb n 0 || (codesOk n k && sessionOk own (sessionAt p) && not (anyHolds (sessionAt p .key) (map slotAt ps)))) && t) (pieces-ready own ps)
+    ap (λ (t : Bool). (eqb n 0 || (codesOk n k && sessionOk own (sessionAt p) && not (anyHolds (sessionAt p .announced .key) (map slotAt ps)))) && t) (pieces-ready own ps)
     ∙ by-code own (sessionAt p) (map slotAt ps) (eqb n 0) (eqb n 1) (eqb k 1 || eqb k 2) (codesAll ps) (slotsOk own (map slotAt ps)) (two-codes n)
 
 -- slot i, and those behind it
 abbrev pub readyAt : Address → List ℕ → ℕ → Bool
 readyAt own b i =
-    eqb (getD b (9 + 30 * i) 0) 0 || openReady own (getD (piecesOf b) i []) (drop (i + 1) (piecesOf b))
+    eqb (getD b (slotPlace i) 0) 0 || openReady own (getD (piecesOf b) i []) (drop (i + 1) (piecesOf b))
 
 abbrev pub twoReady : Address → List ℕ → ℕ → Bool
 twoReady own b i = readyAt own b i && readyAt own b (i + 1)
@@ -70,28 +74,14 @@ ready-turn : (own : Address) (b : List ℕ) (i : ℕ) → i < 8
     → piecesReady own (drop i (piecesOf b)) ≡ (readyAt own b i && piecesReady own (drop (i + 1) (piecesOf b)))
 unfolding piecesReady
 ready-turn own b i h =
-    let at : ℕ = 9 + 30 * i in
+    let at : ℕ = slotPlace i in
     let ps : List (List ℕ) = drop (i + 1) (piecesOf b) in
     let e : at + 0 ≡ at = omega arith in
-    turn (piecesReady own) (piecesOf b) i [] (omega (arith, length-pieces 8 (drop 9 b)))
+    turn (piecesReady own) (piecesOf b) i [] (omega (arith, length-pieces 8 (drop headLength b)))
     ∙ ap (λ (x : ℕ). (eqb x 0 || openReady own (getD (piecesOf b) i []) ps) && piecesReady own ps) (byte-of b i 0 h (omega arith) ∙ ap (λ (m : ℕ). getD b m 0) e)
 
-and-true : (a r : Bool) → r ≡ true → a ≡ (a && r)
-and-true true r e = sym e
-and-true false r e = refl
-
-and-assoc : (a b c : Bool) → ((a && b) && c) ≡ (a && (b && c))
-and-assoc true b c = refl
-and-assoc false b c = refl
-
-pub and-same : {a b x y : Bool} → a ≡ x → b ≡ y → (a && b) ≡ (x && y)
-and-same p q = rw (p, q)
-
-and-four : (a b c d r : Bool) → (a && (b && (c && (d && r)))) ≡ ((a && b && c && d) && r)
-and-four true true true d r = refl
-and-four true true false d r = refl
-and-four true false c d r = refl
-and-four false b c d r = refl
+and-four : (a b c d r : Bool) → (a && b && c && d && r) ≡ (a && (b && (c && (d && r))))
+and-four a b c d r = simp and-assoc
 
 two-turn : (own : Address) (b : List ℕ) (i : ℕ) → i < 7
     → piecesReady own (drop i (piecesOf b)) ≡ (twoReady own b i && piecesReady own (drop (i + 2) (piecesOf b)))
@@ -110,10 +100,11 @@ unfolding piecesReady
 eight-ready own b x y z w ex ey ez ew =
     let T : ℕ → Bool = twoReady own b in
     let R : ℕ → Bool = λ (n : ℕ). piecesReady own (drop n (piecesOf b)) in
-    let none : R 8 ≡ true = end (piecesReady own) (piecesOf b) 8 (omega (arith, length-pieces 8 (drop 9 b))) in
+    let none : R 8 ≡ true = end (piecesReady own) (piecesOf b) 8 (omega (arith, length-pieces 8 (drop headLength b))) in
     and-same (and-same (and-same ex ey) ez) ew
-    ∙ and-true (T 0 && T 2 && T 4 && T 6) (R 8) none
-    ∙ sym (and-four (T 0) (T 2) (T 4) (T 6) (R 8))
+    ∙ sym (and-true (T 0 && T 2 && T 4 && T 6))
+    ∙ ap (λ (t : Bool). T 0 && T 2 && T 4 && T 6 && t) (sym none)
+    ∙ and-four (T 0) (T 2) (T 4) (T 6) (R 8)
     ∙ ap (λ (t : Bool). T 0 && (T 2 && (T 4 && t))) (sym (two-turn own b 6 (omega arith)))
     ∙ ap (λ (t : Bool). T 0 && (T 2 && t)) (sym (two-turn own b 4 (omega arith)))
     ∙ ap (λ (t : Bool). T 0 && t) (sym (two-turn own b 2 (omega arith)))
@@ -127,12 +118,12 @@ drop-map [] (suc n) = refl
 drop-map (p ∷ ps) (suc n) = drop-map ps n
 
 module _ (own : Address) (b : List ℕ) (i : ℕ) (h : i < 8) where
-  module _ (x : Bool) (ex : x ≡ codesOk (getD b (9 + 30 * i) 0) (getD b (9 + 30 * i + 1) 0)) where
-    judged : (y z : Bool) (s : Session) → s ≡ sessionAt (take 30 (drop (9 + 30 * i) b)) → y ≡ sessionOk own s → z ≡ anyHolds (s .key) (drop (i + 1) (slotsAt b))
+  module _ (x : Bool) (ex : x ≡ codesOk (getD b (slotPlace i) 0) (getD b (slotPlace i + 1) 0)) where
+    judged : (y z : Bool) (s : Session) → s ≡ sessionAt (take slotLength (drop (slotPlace i) b)) → y ≡ sessionOk own s → z ≡ anyHolds (s .announced .key) (drop (i + 1) (slotsAt b))
         → (x && y && not z) ≡ openReady own (getD (piecesOf b) i []) (drop (i + 1) (piecesOf b))
     unfolding openReady
     judged y z s es ey ez =
-        let at : ℕ = 9 + 30 * i in
+        let at : ℕ = slotPlace i in
         let p : List ℕ = getD (piecesOf b) i [] in
         let ss : List Slot = drop (i + 1) (slotsAt b) in
         let e : at ≡ at + 0 = omega arith in
@@ -141,40 +132,40 @@ module _ (own : Address) (b : List ℕ) (i : ℕ) (h : i < 8) where
         ∙ ap (codesOk (getD p 0 0)) (sym (byte-of b i 1 h (omega arith))))
         ∙ ap (λ (u : Bool). codesOk (getD p 0 0) (getD p 1 0) && u && not z) ey
         ∙ ap (λ (u : Bool). codesOk (getD p 0 0) (getD p 1 0) && sessionOk own s && not u) ez
-        ∙ ap (λ (v : Session). codesOk (getD p 0 0) (getD p 1 0) && sessionOk own v && not (anyHolds (v .key) ss)) (es ∙ ap sessionAt (sym (piece-of b i h)))
-        ∙ ap (λ (l : List Slot). codesOk (getD p 0 0) (getD p 1 0) && sessionOk own (sessionAt p) && not (anyHolds (sessionAt p .key) l)) (drop-map (piecesOf b) (i + 1))
+        ∙ ap (λ (v : Session). codesOk (getD p 0 0) (getD p 1 0) && sessionOk own v && not (anyHolds (v .announced .key) ss)) (es ∙ ap sessionAt (sym (piece-of b i h)))
+        ∙ ap (λ (l : List Slot). codesOk (getD p 0 0) (getD p 1 0) && sessionOk own (sessionAt p) && not (anyHolds (sessionAt p .announced .key) l)) (drop-map (piecesOf b) (i + 1))
 
     pub no-codes : x ≡ false → false ≡ openReady own (getD (piecesOf b) i []) (drop (i + 1) (piecesOf b))
     no-codes f =
-        let s : Session = sessionAt (take 30 (drop (9 + 30 * i) b)) in
-        let z : Bool = anyHolds (s .key) (drop (i + 1) (slotsAt b)) in
+        let s : Session = sessionAt (take slotLength (drop (slotPlace i) b)) in
+        let z : Bool = anyHolds (s .announced .key) (drop (i + 1) (slotsAt b)) in
         ap (λ (u : Bool). u && sessionOk own s && not z) (sym f) ∙ judged (sessionOk own s) z s refl refl refl
 
-    module _ (t : x ≡ true) (y : Bool) (s : Session) (es : s ≡ sessionAt (take 30 (drop (9 + 30 * i) b))) (ey : y ≡ sessionOk own s) where
+    module _ (t : x ≡ true) (y : Bool) (s : Session) (es : s ≡ sessionAt (take slotLength (drop (slotPlace i) b))) (ey : y ≡ sessionOk own s) where
       pub no-bounds : y ≡ false → false ≡ openReady own (getD (piecesOf b) i []) (drop (i + 1) (piecesOf b))
       no-bounds f =
-          let z : Bool = anyHolds (s .key) (drop (i + 1) (slotsAt b)) in
+          let z : Bool = anyHolds (s .announced .key) (drop (i + 1) (slotsAt b)) in
           ap (λ (u : Bool). u && false && not z) (sym t) ∙ ap (λ (u : Bool). x && u && not z) (sym f) ∙ judged y z s es ey refl
 
-      pub no-twin : y ≡ true → (z : Bool) → z ≡ anyHolds (s .key) (drop (i + 1) (slotsAt b)) → not z ≡ openReady own (getD (piecesOf b) i []) (drop (i + 1) (piecesOf b))
+      pub no-twin : y ≡ true → (z : Bool) → z ≡ anyHolds (s .announced .key) (drop (i + 1) (slotsAt b))
+          → not z ≡ openReady own (getD (piecesOf b) i []) (drop (i + 1) (piecesOf b))
       no-twin g z ez =
           ap (λ (u : Bool). u && true && not z) (sym t) ∙ ap (λ (u : Bool). x && u && not z) (sym g) ∙ judged y z s es ey ez
 
 -- ---- the whole buffer: length, store and opening values, and then the pieces
 
 reorder : (l c s o k : Bool) → (cond (not l) false c && (s && (o && k))) ≡ (l && (s && (o && (c && k))))
-reorder true true s o k = refl
-reorder true false true true k = refl
-reorder true false true false k = refl
-reorder true false false o k = refl
-reorder false c s o k = refl
+reorder l c s o k =
+    ap (λ (t : Bool). t && (s && (o && k))) (guarded l c)
+    ∙ and-assoc l c (s && (o && k))
+    ∙ ap (λ (t : Bool). l && t) (and-left-comm c s (o && k) ∙ ap (λ (t : Bool). s && t) (and-left-comm c o k))
 
 pub ready-in : (b : List ℕ) (store : ℕ)
     → readyIn b store
-    ≡ (eqb (length b) 249 && (eqb store 32768 && (openingOk (recordAt b .own) (recordAt b .limit) && piecesReady (recordAt b .own) (piecesOf b))))
+    ≡ (eqb (length b) recordLength && (eqb store 32768 && (openingOk (recordAt b .own) (recordAt b .limit) && piecesReady (recordAt b .own) (piecesOf b))))
 unfolding readyIn isRecord inBounds
 ready-in b store =
     let own : Address = recordAt b .own in
     let opening : Bool = openingOk own (recordAt b .limit) in
-    reorder (eqb (length b) 249) (codesAll (piecesOf b)) (eqb store 32768) opening (slotsOk own (slotsAt b))
-    ∙ ap (λ (t : Bool). eqb (length b) 249 && (eqb store 32768 && (opening && t))) (sym (pieces-ready own (piecesOf b)))
+    reorder (eqb (length b) recordLength) (codesAll (piecesOf b)) (eqb store 32768) opening (slotsOk own (slotsAt b))
+    ∙ ap (λ (t : Bool). eqb (length b) recordLength && (eqb store 32768 && (opening && t))) (sym (pieces-ready own (piecesOf b)))

@@ -1,3 +1,4 @@
 pub mod Ready
 pub mod Held
 pub mod Judged
+pub mod Found

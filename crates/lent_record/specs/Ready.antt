@@ -8,6 +8,7 @@ use lib.ListN.{length}
 use borrow.Author.Tests.{eqb-true}
 use Rattle.laws.specs.Choice.{each-of}
 use Rattle.receiver.specs.Bounds.{inBounds}
+use Rattle.record_bytes.specs.Places.{recordLength}
 use Rattle.record_bytes.specs.Layout.{isRecord, recordAt}
 use Rattle.record_bytes.specs.Pieces.{record-long}
 
@@ -17,7 +18,7 @@ readyIn b store = isRecord b && (eqb store 32768 && inBounds (recordAt b))
 
 -- the same, as facts
 pub record Ready (b : List ℕ) (n : ℕ) : Type 0 where
-  pub long : length b ≡ 249
+  pub long : length b ≡ recordLength
   pub codes : isRecord b ≡ true
   pub store : n ≡ 32768
   pub bounds : inBounds (recordAt b) ≡ true

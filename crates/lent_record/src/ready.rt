@@ -4,19 +4,21 @@ ghost use Prim.Native.Nat.{ℕ, _+_, _<_, _≤_};
 ghost use mathlib.Core.List.{[]};
 ghost use lib.ListN.{length, getD, drop};
 ghost use Rattle.record_bytes.specs.Layout.{piecesOf};
+ghost use Rattle.record_bytes.specs.Places.{recordLength};
 ghost use Rattle.lent_record.specs.Ready.{readyIn};
 ghost use Rattle.lent_record.specs.Judged.{openReady, twoReady, piecesReady};
 use super::search::any_holds;
 use frame::Address;
 use receiver::Receiver;
-use record_bytes::layout::HEAD_BYTES;
-use record_bytes::layout::RECORD_BYTES;
-use record_bytes::slot::SLOT_BYTES;
+use record_bytes::places::HEAD_BYTES;
+use record_bytes::places::LIMIT_AT;
+use record_bytes::places::RECORD_BYTES;
+use record_bytes::places::SLOT_BYTES;
 use record_bytes::slot::codes_ok;
 use record_bytes::slot::session_at;
 use record_bytes::word::word_at;
+use session::bounds::session_ok;
 use slots::bounds::opening_ok;
-use slots::bounds::session_ok;
 
 // The own address. What is lent are bytes: each is below 256.
 pub fn own_of(bytes: &[u8]) -> Address
@@ -28,7 +30,7 @@ pub fn own_of(bytes: &[u8]) -> Address
 
 // Whether slot i, which is not free, begins with codes, is in bounds, and has no twin behind it.
 fn open_ready(bytes: &[u8], i: usize, own: Address) -> bool
-    requires { ⌜ (length (now bytes) ≡ 249) × (i < 8) ⌝ }
+    requires { ⌜ (length (now bytes) ≡ recordLength) × (i < 8) ⌝ }
     ensures { λ r. ⌜ r ≡ openReady own (getD (piecesOf (now (bytes .entry))) i []) (drop (i + 1) (piecesOf (now (bytes .entry)))) ⌝ }
 {
     let at = HEAD_BYTES + SLOT_BYTES * i;
@@ -40,12 +42,12 @@ fn open_ready(bytes: &[u8], i: usize, own: Address) -> bool
     if !session_ok(s, own) {
         return false;
     }
-    !any_holds(bytes, i + 1, s.key)
+    !any_holds(bytes, i + 1, s.announced.key)
 }
 
 // Slots i and i + 1: a free one costs one byte's test.
 fn two_ready(bytes: &[u8], i: usize, own: Address) -> bool
-    requires { ⌜ (length (now bytes) ≡ 249) × (i < 7) ⌝ }
+    requires { ⌜ (length (now bytes) ≡ recordLength) × (i < 7) ⌝ }
     ensures { λ r. ⌜ r ≡ twoReady own (now (bytes .entry)) i ⌝ }
 {
     let at = HEAD_BYTES + SLOT_BYTES * i;
@@ -62,7 +64,7 @@ fn two_ready(bytes: &[u8], i: usize, own: Address) -> bool
 
 // All eight, by twos and not in a loop: the place of each slot is then known where this is compiled.
 fn slots_ready(bytes: &[u8], own: Address) -> bool
-    requires { ⌜ length (now bytes) ≡ 249 ⌝ }
+    requires { ⌜ length (now bytes) ≡ recordLength ⌝ }
     ensures { λ r. ⌜ r ≡ piecesReady own (piecesOf (now (bytes .entry))) ⌝ }
 {
     two_ready(bytes, 0, own)
@@ -82,7 +84,7 @@ pub fn is_ready(bytes: &[u8], store: usize) -> bool
         return false;
     }
     let own = Address(bytes[0]);
-    if !opening_ok(own, word_at(bytes, 1)) {
+    if !opening_ok(own, word_at(bytes, LIMIT_AT)) {
         return false;
     }
     slots_ready(bytes, own)

@@ -2,13 +2,15 @@
 ghost use mathlib.Core.Path.{_≡_};
 ghost use Prim.Native.Nat.{_+_, _≤_, _<_};
 ghost use lib.ListN.{length, getD, drop};
-ghost use Rattle.slots.specs.Slots.{freeSlot, isFree, firstFree, keyPlace, Within};
+ghost use Rattle.slots.specs.Slots.{freeSlot, isFree, firstFree, keyPlace, slotFor, stateIn, Within};
 ghost use Rattle.slots.specs.Bounds.{anyHolds};
 ghost use Rattle.record_bytes.specs.Layout.{slotsAt};
+ghost use Rattle.record_bytes.specs.Places.{recordLength};
 ghost use Rattle.lent_record.specs.Held.{keyOpenAt};
-use record_bytes::layout::HEAD_BYTES;
-use record_bytes::slot::SLOT_BYTES;
+use record_bytes::places::HEAD_BYTES;
+use record_bytes::places::SLOT_BYTES;
 use record_bytes::slot::slot_at;
+use session::State;
 use slots::Found;
 use slots::SLOTS;
 use slots::Slot;
@@ -16,7 +18,7 @@ use transport::Key;
 
 // Whether slot i is free.
 fn is_free(bytes: &[u8], i: usize) -> bool
-    requires { ⌜ (length (now bytes) ≡ 249) × (i < 8) ⌝ }
+    requires { ⌜ (length (now bytes) ≡ recordLength) × (i < 8) ⌝ }
     ensures { λ r. ⌜ r ≡ isFree (getD (slotsAt (now (bytes .entry))) i freeSlot) ⌝ }
 {
     bytes[HEAD_BYTES + SLOT_BYTES * i] != 1
@@ -38,7 +40,7 @@ fn holds_key(bytes: &[u8], at: usize, k: Key) -> bool
 
 // Whether a slot from the one given on has the key open.
 pub fn any_holds(bytes: &[u8], from: usize, k: Key) -> bool
-    requires { ⌜ (length (now bytes) ≡ 249) × (from ≤ 8) ⌝ }
+    requires { ⌜ (length (now bytes) ≡ recordLength) × (from ≤ 8) ⌝ }
     ensures { λ r. ⌜ r ≡ anyHolds k (drop from (slotsAt (now (bytes .entry)))) ⌝ }
 {
     let mut j = from;
@@ -55,7 +57,7 @@ pub fn any_holds(bytes: &[u8], from: usize, k: Key) -> bool
 
 // The lowest free slot.
 pub fn find_free(bytes: &[u8]) -> Found
-    requires { ⌜ length (now bytes) ≡ 249 ⌝ }
+    requires { ⌜ length (now bytes) ≡ recordLength ⌝ }
     ensures { λ r. ⌜ (r ≡ firstFree (slotsAt (now (bytes .entry)))) × Within r 8 ⌝ }
 {
     let mut i: usize = 0;
@@ -73,7 +75,7 @@ pub fn find_free(bytes: &[u8]) -> Found
 
 // The slot that has the key open.
 pub fn find_key(bytes: &[u8], k: Key) -> Found
-    requires { ⌜ length (now bytes) ≡ 249 ⌝ }
+    requires { ⌜ length (now bytes) ≡ recordLength ⌝ }
     ensures { λ r. ⌜ (r ≡ keyPlace k (slotsAt (now (bytes .entry)))) × Within r 8 ⌝ }
 {
     let mut i: usize = 0;
@@ -89,12 +91,34 @@ pub fn find_key(bytes: &[u8], k: Key) -> Found
     found
 }
 
+// The slot for a key: the one that has it open, else the lowest that is free.
+pub fn slot_for(bytes: &[u8], k: Key) -> Found
+    requires { ⌜ length (now bytes) ≡ recordLength ⌝ }
+    ensures { λ r. ⌜ (r ≡ slotFor k (slotsAt (now (bytes .entry)))) × Within r 8 ⌝ }
+{
+    match find_key(bytes, k) {
+        Found::At(i) => Found::At(i),
+        Found::Nothing => find_free(bytes),
+    }
+}
+
 // Slot i.
 pub fn slot_in(bytes: &[u8], i: usize) -> Slot
-    requires { ⌜ (length (now bytes) ≡ 249) × (i < 8) ⌝ }
+    requires { ⌜ (length (now bytes) ≡ recordLength) × (i < 8) ⌝ }
     ensures { λ r. ⌜ r ≡ getD (slotsAt (now (bytes .entry))) i freeSlot ⌝ }
 {
     let at = HEAD_BYTES + SLOT_BYTES * i;
     let end = at + SLOT_BYTES;
     slot_at(&bytes[at..end])
+}
+
+// What is known of the key that a slot was found for.
+pub fn state_in(bytes: &[u8], f: Found) -> State
+    requires { ⌜ (length (now bytes) ≡ recordLength) × Within f 8 ⌝ }
+    ensures { λ r. ⌜ r ≡ stateIn f (slotsAt (now (bytes .entry))) ⌝ }
+{
+    match f {
+        Found::At(i) => slot_in(bytes, i).state,
+        Found::Nothing => State::Closed,
+    }
 }

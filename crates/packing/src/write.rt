@@ -7,6 +7,7 @@ ghost use lib.Seq.{paste};
 ghost use Rattle.packing.specs.Packing.{headerOf, body, padByte, padding, sum, needed};
 use super::request::size;
 use frame::octet::low_byte;
+use octets::copy;
 
 // The header of a plain group: TOS 2, TF 0, the PGN with its high byte first, the data length.
 pub fn header(pgn: u32, n: u8) -> [u8; 4]
@@ -18,18 +19,6 @@ pub fn header(pgn: u32, n: u8) -> [u8; 4]
         low_byte(pgn),
         n,
     ]
-}
-
-// Copies n bytes of data, from its index from on, into out at the index at.
-pub fn copy(out: &mut [u8], at: usize, data: &[u8], from: usize, n: usize)
-    requires { ⌜ (at + n ≤ length (now out)) × (from + n ≤ length (now «data»)) ⌝ }
-    ensures { λ _. ⌜ now (out .exit) ≡ paste (now (out .entry)) at (drop from (now («data» .entry))) n ⌝ }
-{
-    let mut j: usize = 0;
-    while j < n {
-        out[at + j] = data[from + j];
-        j = j + 1;
-    }
 }
 
 // The groups back to back, from the first byte of out.

@@ -1,25 +1,28 @@
-// The record of an open session, lent and brought forward by each segment (01, "Segment"; "Where each language form belongs").
-ghost use mathlib.Core.Path.{_≡_};
-ghost use Prim.Native.Nat.{_<_};
-ghost use Rattle.session.specs.Segments.{advancedBy};
-use frame::SegmentNumber;
-use session::Session;
-use session::segment::advance;
+// A session in its two parts: what was announced, which stays, and how far it has come (01, "Announcement" and "Segment").
+pub mod forward;
+pub mod grant;
 
-// The session that stands behind s is brought forward by segment n.
-pub fn bring_forward(s: &mut Session, n: SegmentNumber, last: u32)
-    requires { ⌜ n .0 < 16777216 ⌝ }
-    ensures { λ _. ⌜ now (s .exit) ≡ advancedBy (now (s .entry)) (n .0) last ⌝ }
-{
-    *s = advance(*s, n, last);
+use frame::ByteCount;
+use frame::SegmentNumber;
+use transport::Key;
+use transport::Kind;
+
+// What was announced, with the key of the session.
+pub struct Announced {
+    pub key: Key,
+    pub kind: Kind,
+    pub total: ByteCount,
+    pub segments: SegmentNumber,
+    // MAX SGMTS, of which a BAM has none
+    pub max: u8,
+    pub pgn: u32,
 }
 
-// The same by value: the record is lent and handed back, so whoever calls this lends nothing.
-pub fn brought_forward(s: Session, n: SegmentNumber, last: u32) -> Session
-    requires { ⌜ n .0 < 16777216 ⌝ }
-    ensures { λ r. ⌜ r ≡ advancedBy s (n .0) last ⌝ }
-{
-    let mut record = s;
-    bring_forward(&mut record, n, last);
-    record
+pub struct Progress {
+    // the next segment
+    pub next: SegmentNumber,
+    // the last segment that a CTS granted; 0 in a BAM, which has no grants
+    pub granted: SegmentNumber,
+    // the reading of the clock from which silence counts
+    pub mark: u32,
 }

@@ -12,7 +12,7 @@ pub struct Reader<'a> {
 }
 
 // Where a reader begins: 0 in a frame judged good, the frame's end in any other.
-pub fn start_of(frame: &[u8]) -> usize
+fn start_of(frame: &[u8]) -> usize
     ensures { λ r. ⌜ r ≡ startOf (now (frame .entry)) ⌝ }
 {
     let start = Cursor::over(frame);
@@ -59,11 +59,12 @@ pub fn rest<'a>(r: Reader<'a>) -> Reader<'a>
     Reader { frame: r.frame, at }
 }
 
-// The first group of a frame. Here and below the parameters are plain, so a caller needs no walk.
-pub fn first(frame: &[u8]) -> Next
-    ensures { λ r. ⌜ r ≡ nextAt (now (frame .entry)) (startOf (now (frame .entry))) ⌝ }
+// Here and below the parameters are plain, so a caller needs no walk: the place of a reader made over a frame.
+pub fn first_place(frame: &[u8]) -> usize
+    ensures { λ r. ⌜ r ≡ overOf (frame .entry) .at ⌝ }
 {
-    next(over(frame))
+    let made = over(frame);
+    made.at
 }
 
 // The group at a place that a reader has come to.
@@ -71,4 +72,12 @@ pub fn group_at(frame: &[u8], at: usize) -> Next
     ensures { λ r. ⌜ r ≡ nextAt (now (frame .entry)) at ⌝ }
 {
     next(Reader { frame, at })
+}
+
+// The place of the reader of the rest.
+pub fn place_after(frame: &[u8], at: usize) -> usize
+    ensures { λ r. ⌜ r ≡ restAt (now (frame .entry)) at ⌝ }
+{
+    let behind = rest(Reader { frame, at });
+    behind.at
 }

@@ -7,8 +7,8 @@ use Rattle.frame.specs.declared.refusal.Refusal.the-variants.{OutOfBounds}
 use Rattle.slots.specs.Slots.{freeSlot}
 use Rattle.slots.specs.Bounds.{openingOk, slotsOk}
 use Rattle.receiver.specs.declared.Receiver.{Receiver}
-use Rattle.receiver.specs.declared.answer.Opened.{Opened}
-use Rattle.receiver.specs.declared.answer.Opening.the-variants.{Accepted, Refused}
+use Rattle.receiver.specs.declared.Opened.{Opened}
+use Rattle.answer.specs.declared.Acceptance.the-variants.{Accepted, Refused}
 
 unfoldable pub inBounds : Receiver → Bool
 inBounds r = openingOk (r .own) (r .limit) && slotsOk (r .own) (r .slots)

@@ -1,4 +1,2 @@
 pub mod Bounds
 pub mod Calls
-pub mod Answers
-pub mod Handed

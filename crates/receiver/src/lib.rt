@@ -1,33 +1,27 @@
-// The receiver: eight slots over one lent store (01, "Life of a session").
-ghost use mathlib.Core.Bool.{_&&_};
+// The receiver's record: eight slots over one lent store (01, "Life of a session"). What a call does to it is the model in
+// specs/Calls.antt; the engine does that to the record's bytes, where they lie.
 ghost use mathlib.Core.Path.{_≡_};
-ghost use lib.Dec.{eqb};
-ghost use Rattle.receiver.specs.Bounds.{inBounds, opened};
-
-pub mod announce;
-pub mod answer;
-pub mod call;
-pub mod clock;
-pub mod end;
-pub mod segment;
-pub mod step;
-
-use answer::Opened;
-use answer::Opening;
+ghost use Rattle.receiver.specs.Bounds.{opened};
+use answer::Acceptance;
 use frame::Address;
 use frame::refusal::Refusal;
-use session::grant;
+use progress::grant;
+use session::State;
 use slots::Slot;
-use slots::SlotState;
 use slots::bounds;
 
-// The receiver's record: the opening values, the last reading, and the slots.
+// The opening values, the last reading, and the slots.
 pub struct Receiver {
     pub own: Address,
     // the idle limit in milliseconds
     pub limit: u32,
     pub last: u32,
     pub slots: [Slot; 8],
+}
+
+pub struct Opened {
+    pub receiver: Receiver,
+    pub answer: Acceptance,
 }
 
 impl Receiver {
@@ -47,31 +41,18 @@ impl Receiver {
             limit: limit,
             last: reading,
             slots: [Slot {
-                state: SlotState::Free,
+                state: State::Closed,
             }; 8],
         };
         if bounds::opening_ok(own, limit) {
             return Opened {
                 receiver: receiver,
-                answer: Opening::Accepted,
+                answer: Acceptance::Accepted,
             };
         }
         Opened {
             receiver: receiver,
-            answer: Opening::Refused(Refusal::OutOfBounds),
+            answer: Acceptance::Refused(Refusal::OutOfBounds),
         }
-    }
-    // Whether the record is in bounds.
-    pub fn in_bounds(self) -> bool
-        ensures { λ r. ⌜ r ≡ inBounds self ⌝ }
-    {
-        let slots = self.slots;
-        bounds::opening_ok(self.own, self.limit) & bounds::slots_ok(slots, self.own)
-    }
-    // Whether the record is in bounds, and a store of so many bytes has the right length: 23 if not.
-    fn is_ready(self, bytes: usize) -> bool
-        ensures { λ x. ⌜ x ≡ (eqb bytes 32768 && inBounds self) ⌝ }
-    {
-        (bytes == Receiver::SLOTS * Receiver::SLOT_BYTES) & self.in_bounds()
     }
 }

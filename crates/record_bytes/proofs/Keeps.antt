@@ -1,45 +1,39 @@
 -- A turn of the loop that puts the slots over the pieces before them.
-use Prim.Native.Nat.{ℕ, suc, _+_, _-_, _*_, _≤_, _<_}
+use Prim.Native.Nat.{ℕ, suc, _+_, _-_, _≤_, _<_}
 use native.Mathlib.Omega.{arith}
 use native.Mathlib.Numerals.{add-one}
-use mathlib.Core.Path.{_≡_, refl, sym, ap, _∙_}
+use mathlib.Core.Path.{_≡_, sym, ap, _∙_}
 use mathlib.Core.Bool.{Bool, true, false, cond, _&&_}
 use mathlib.Core.List.{List, [], _∷_, _++_, append-assoc, append-nil}
 use lib.Dec.{eqb}
-use lib.ListN.{length, getD, take, drop, length-drop, take-append-drop, drop-of-length-le}
-use lib.Seq.{paste, take-paste, drop-paste, length-paste, take-all, drop-cons, drop-drop, take-add, length-take-le}
+use lib.ListN.{length, getD, take, drop, length-drop, drop-of-length-le}
+use lib.Seq.{paste, take-paste, drop-paste, length-paste, take-all, drop-cons, drop-drop, length-take-le}
+use Rattle.laws.specs.Pastes.{paste-own}
 use Rattle.slots.specs.declared.Slot.{Slot}
 use Rattle.slots.specs.Slots.{isFree}
 use Rattle.receiver.specs.declared.Receiver.{Receiver}
+use Rattle.record_bytes.specs.Places.{recordLength, headLength, slotLength, slotPlace}
 use Rattle.record_bytes.specs.Layout.{slotBytes, headBytes, pieces, piecesOf}
 use Rattle.record_bytes.specs.Pieces.{length-slot, length-pieces, piece-of, byte-of}
 use Rattle.record_bytes.specs.Keeping.{kept, merged, putIn}
 
--- a part put back where it was
-paste-own : (d : List ℕ) (at n : ℕ) → at + n ≤ length d → paste d at (take n (drop at d)) n ≡ d
-paste-own d at n h =
-    let l : length (take n (drop at d)) ≡ n = length-take-le n (drop at d) (simp length-drop (omega arith)) in
-    ap (λ (x : List ℕ). take at d ++ x ++ drop (at + n) d) (take-all n (take n (drop at d)) (omega arith))
-    ∙ ap (λ (x : List ℕ). x ++ drop (at + n) d) (sym (take-add at n d))
-    ∙ take-append-drop (at + n) d
-
-module _ (o : List ℕ) (i : ℕ) (s : Slot) (long : length o ≡ 249) (low : i < 8) where
+module _ (o : List ℕ) (i : ℕ) (s : Slot) (long : length o ≡ recordLength) (low : i < 8) where
   abbrev at : ℕ
-  at = 9 + 30 * i
+  at = slotPlace i
 
   abbrev piece : List ℕ
   piece = getD (piecesOf o) i []
 
-  piece-long : length piece ≡ 30
-  piece-long = ap length (piece-of o i low) ∙ length-take-le 30 (drop at o) (simp length-drop (omega arith))
+  piece-long : length piece ≡ slotLength
+  piece-long = ap length (piece-of o i low) ∙ length-take-le slotLength (drop at o) (simp length-drop (omega arith))
 
   code-of : getD piece 0 0 ≡ getD o at 0
   code-of = let e : at + 0 ≡ at = omega arith in byte-of o i 0 low (omega arith) ∙ ap (λ (k : ℕ). getD o k 0) e
 
-  pub kept-long : length (kept piece s) ≡ 30
+  pub kept-long : length (kept piece s) ≡ slotLength
   kept-long = by (isFree s && eqb (getD piece 0 0) 0)
     where
-      by : (t : Bool) → length (cond t piece (slotBytes s)) ≡ 30
+      by : (t : Bool) → length (cond t piece (slotBytes s)) ≡ slotLength
       by true = piece-long
       by false = length-slot s
 
@@ -48,76 +42,76 @@ module _ (o : List ℕ) (i : ℕ) (s : Slot) (long : length o ≡ 249) (low : i 
       ap (λ (x : ℕ). cond (isFree s && eqb x 0) piece (slotBytes s)) code-of ∙ ap (λ (u : Bool). cond u piece (slotBytes s)) (sym e)
 
   -- a slot that stays free
-  pub kept-free : (t : Bool) → t ≡ (isFree s && eqb (getD o at 0) 0) → t ≡ true → o ≡ paste o at (kept piece s) 30
+  pub kept-free : (t : Bool) → t ≡ (isFree s && eqb (getD o at 0) 0) → t ≡ true → o ≡ paste o at (kept piece s) slotLength
   kept-free t e q =
       sym
-      (ap (λ (x : List ℕ). paste o at x 30) (kept-by t e ∙ ap (λ (u : Bool). cond u piece (slotBytes s)) q ∙ piece-of o i low)
-      ∙ paste-own o at 30 (omega arith))
+      (ap (λ (x : List ℕ). paste o at x slotLength) (kept-by t e ∙ ap (λ (u : Bool). cond u piece (slotBytes s)) q ∙ piece-of o i low)
+      ∙ paste-own o at slotLength (omega arith))
 
   -- one that is written
-  pub kept-put : (t : Bool) (o′ : List ℕ) → t ≡ (isFree s && eqb (getD o at 0) 0) → t ≡ false → o′ ≡ paste o at (slotBytes s) 30 → o′ ≡ paste o at (kept piece s) 30
+  pub kept-put : (t : Bool) (o′ : List ℕ) → t ≡ (isFree s && eqb (getD o at 0) 0) → t ≡ false → o′ ≡ paste o at (slotBytes s) slotLength → o′ ≡ paste o at (kept piece s) slotLength
   kept-put t o′ e q p =
-      p ∙ ap (λ (x : List ℕ). paste o at x 30) (sym (kept-by t e ∙ ap (λ (u : Bool). cond u piece (slotBytes s)) q))
+      p ∙ ap (λ (x : List ℕ). paste o at x slotLength) (sym (kept-by t e ∙ ap (λ (u : Bool). cond u piece (slotBytes s)) q))
 
-module _ (ss : List Slot) (o₀ o o′ : List ℕ) (i : ℕ) (d : Slot) (eight : length ss ≡ 8) (long : length o ≡ 249) (low : i < 8)
-    (e : o′ ≡ paste o (9 + 30 * i) (kept (getD (piecesOf o) i []) (getD ss i d)) 30) where
-  size : length (kept (getD (piecesOf o) i []) (getD ss i d)) ≡ 30
+module _ (ss : List Slot) (o₀ o o′ : List ℕ) (i : ℕ) (d : Slot) (eight : length ss ≡ 8) (long : length o ≡ recordLength) (low : i < 8)
+    (e : o′ ≡ paste o (slotPlace i) (kept (getD (piecesOf o) i []) (getD ss i d)) slotLength) where
+  size : length (kept (getD (piecesOf o) i []) (getD ss i d)) ≡ slotLength
   size = kept-long o i (getD ss i d) long low
 
-  pub keeps-long : length o′ ≡ 249
-  keeps-long = ap length e ∙ length-paste o (9 + 30 * i) (kept (getD (piecesOf o) i []) (getD ss i d)) 30 (omega arith) (omega (arith, size)) ∙ long
+  pub keeps-long : length o′ ≡ recordLength
+  keeps-long = ap length e ∙ length-paste o (slotPlace i) (kept (getD (piecesOf o) i []) (getD ss i d)) slotLength (omega arith) (omega (arith, size)) ∙ long
 
-  module _ (same : drop (9 + 30 * i) o ≡ drop (9 + 30 * i) o₀) where
-    pub keeps-same : drop (9 + 30 * (i + 1)) o′ ≡ drop (9 + 30 * (i + 1)) o₀
+  module _ (same : drop (slotPlace i) o ≡ drop (slotPlace i) o₀) where
+    pub keeps-same : drop (slotPlace (i + 1)) o′ ≡ drop (slotPlace (i + 1)) o₀
     keeps-same =
-        let w : 9 + 30 * i + 30 ≡ 9 + 30 * (i + 1) = omega arith in
-        let down : (l : List ℕ) → drop (9 + 30 * i + 30) l ≡ drop 30 (drop (9 + 30 * i) l) = λ l. sym (drop-drop 30 (9 + 30 * i) l) in
+        let w : slotPlace i + slotLength ≡ slotPlace (i + 1) = omega arith in
+        let down : (l : List ℕ) → drop (slotPlace i + slotLength) l ≡ drop slotLength (drop (slotPlace i) l) = λ l. sym (drop-drop slotLength (slotPlace i) l) in
         ap (λ (k : ℕ). drop k o′) (sym w)
-        ∙ ap (drop (9 + 30 * i + 30)) e
-        ∙ drop-paste o (9 + 30 * i) (kept (getD (piecesOf o) i []) (getD ss i d)) 30 (omega arith) (omega (arith, size))
+        ∙ ap (drop (slotPlace i + slotLength)) e
+        ∙ drop-paste o (slotPlace i) (kept (getD (piecesOf o) i []) (getD ss i d)) slotLength (omega arith) (omega (arith, size))
         ∙ down o
-        ∙ ap (drop 30) same
+        ∙ ap (drop slotLength) same
         ∙ sym (down o₀)
         ∙ ap (λ (k : ℕ). drop k o₀) w
 
     piece-same : getD (piecesOf o) i [] ≡ getD (piecesOf o₀) i []
-    piece-same = piece-of o i low ∙ ap (take 30) same ∙ sym (piece-of o₀ i low)
+    piece-same = piece-of o i low ∙ ap (take slotLength) same ∙ sym (piece-of o₀ i low)
 
-    pub keeps-turn : take (9 + 30 * i) o ++ merged (drop i (piecesOf o₀)) (drop i ss) ≡ take 9 o₀ ++ merged (piecesOf o₀) ss
-        → take (9 + 30 * (i + 1)) o′ ++ merged (drop (i + 1) (piecesOf o₀)) (drop (i + 1) ss) ≡ take 9 o₀ ++ merged (piecesOf o₀) ss
+    pub keeps-turn : take (slotPlace i) o ++ merged (drop i (piecesOf o₀)) (drop i ss) ≡ take headLength o₀ ++ merged (piecesOf o₀) ss
+        → take (slotPlace (i + 1)) o′ ++ merged (drop (i + 1) (piecesOf o₀)) (drop (i + 1) ss) ≡ take headLength o₀ ++ merged (piecesOf o₀) ss
     unfolding merged
     keeps-turn inv =
-        let at : ℕ = 9 + 30 * i in
+        let at : ℕ = slotPlace i in
         let ps : List (List ℕ) = piecesOf o₀ in
         let R : List ℕ = merged (drop (i + 1) ps) (drop (i + 1) ss) in
         let s : Slot = getD ss i d in
-        let w : 9 + 30 * (i + 1) ≡ at + 30 = omega arith in
+        let w : slotPlace (i + 1) ≡ at + slotLength = omega arith in
         let both : merged (drop i ps) (drop i ss) ≡ kept (getD ps i []) s ++ R =
-        ap (λ (l : List (List ℕ)). merged l (drop i ss)) (drop-cons ps i [] (omega (arith, length-pieces 8 (drop 9 o₀))))
+        ap (λ (l : List (List ℕ)). merged l (drop i ss)) (drop-cons ps i [] (omega (arith, length-pieces 8 (drop headLength o₀))))
         ∙ ap (merged (getD ps i [] ∷ drop (suc i) ps)) (drop-cons ss i d (omega arith))
         ∙ ap (λ (k : ℕ). kept (getD ps i []) s ++ merged (drop k ps) (drop k ss)) (sym (add-one i)) in
         ap (λ (k : ℕ). take k o′ ++ R) w
-        ∙ ap (λ (l : List ℕ). take (at + 30) l ++ R) e
-        ∙ ap (λ (l : List ℕ). l ++ R) (take-paste o at (kept (getD (piecesOf o) i []) s) 30 (omega arith) (omega (arith, size)))
-        ∙ ap (λ (l : List ℕ). take at o ++ l ++ R) (take-all 30 _ (omega (arith, size)) ∙ ap (λ (p : List ℕ). kept p s) piece-same)
+        ∙ ap (λ (l : List ℕ). take (at + slotLength) l ++ R) e
+        ∙ ap (λ (l : List ℕ). l ++ R) (take-paste o at (kept (getD (piecesOf o) i []) s) slotLength (omega arith) (omega (arith, size)))
+        ∙ ap (λ (l : List ℕ). take at o ++ l ++ R) (take-all slotLength _ (omega (arith, size)) ∙ ap (λ (p : List ℕ). kept p s) piece-same)
         ∙ append-assoc (take at o) (kept (getD ps i []) s) R
         ∙ ap (λ (l : List ℕ). take at o ++ l) (sym both)
         ∙ inv
 
 -- after the last slot
-pub keeps-all : (ss : List Slot) (o o₀ w : List ℕ) (i : ℕ) → length ss ≡ 8 → length o ≡ 249 → i ≡ 8 → take (9 + 30 * i) o ++ merged (drop i (piecesOf o₀)) (drop i ss) ≡ w → o ≡ w
+pub keeps-all : (ss : List Slot) (o o₀ w : List ℕ) (i : ℕ) → length ss ≡ 8 → length o ≡ recordLength → i ≡ 8 → take (slotPlace i) o ++ merged (drop i (piecesOf o₀)) (drop i ss) ≡ w → o ≡ w
 unfolding merged
 keeps-all ss o o₀ w i eight long e inv =
-    sym (take-all (9 + 30 * i) o (omega arith))
-    ∙ sym (append-nil (take (9 + 30 * i) o))
-    ∙ ap (λ (l : List (List ℕ)). take (9 + 30 * i) o ++ merged l (drop i ss)) (sym (drop-of-length-le (piecesOf o₀) {i = i} (omega (arith, length-pieces 8 (drop 9 o₀)))))
+    sym (take-all (slotPlace i) o (omega arith))
+    ∙ sym (append-nil (take (slotPlace i) o))
+    ∙ ap (λ (l : List (List ℕ)). take (slotPlace i) o ++ merged l (drop i ss)) (sym (drop-of-length-le (piecesOf o₀) {i = i} (omega (arith, length-pieces 8 (drop headLength o₀)))))
     ∙ inv
 
 -- the head, and then the slots
-pub record-put : (r : Receiver) (d o₁ o₂ head : List ℕ) → length d ≡ 249 → head ≡ headBytes r → o₁ ≡ paste d 0 head 9 → o₂ ≡ take 9 o₁ ++ merged (piecesOf o₁) (r .slots) → o₂ ≡ putIn d r
+pub record-put : (r : Receiver) (d o₁ o₂ head : List ℕ) → length d ≡ recordLength → head ≡ headBytes r → o₁ ≡ paste d 0 head headLength → o₂ ≡ take headLength o₁ ++ merged (piecesOf o₁) (r .slots) → o₂ ≡ putIn d r
 unfolding putIn headBytes
 record-put r d o₁ o₂ head long eh e₁ e₂ =
-    let n : length head ≡ 9 = ap length eh in
+    let n : length head ≡ headLength = ap length eh in
     e₂
-    ∙ ap (λ (l : List ℕ). l ++ merged (piecesOf o₁) (r .slots)) (ap (take 9) e₁ ∙ take-paste d 0 head 9 (omega arith) (omega arith) ∙ take-all 9 head (omega arith) ∙ eh)
-    ∙ ap (λ (l : List ℕ). headBytes r ++ merged (pieces 8 l) (r .slots)) (ap (drop 9) e₁ ∙ drop-paste d 0 head 9 (omega arith) (omega arith))
+    ∙ ap (λ (l : List ℕ). l ++ merged (piecesOf o₁) (r .slots)) (ap (take headLength) e₁ ∙ take-paste d 0 head headLength (omega arith) (omega arith) ∙ take-all headLength head (omega arith) ∙ eh)
+    ∙ ap (λ (l : List ℕ). headBytes r ++ merged (pieces 8 l) (r .slots)) (ap (drop headLength) e₁ ∙ drop-paste d 0 head headLength (omega arith) (omega arith))

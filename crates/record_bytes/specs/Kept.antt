@@ -1,23 +1,24 @@
 -- What is put back unchanged stays byte for byte, and one slot changed is one piece changed.
 use Prim.Native.Nat.{ℕ, zero, suc, _+_, _*_, _/_, _%_, _<_, _≤_}
 use native.Mathlib.Omega.{arith}
-use native.Mathlib.Nat.{add-assoc}
 use mathlib.Core.Path.{_≡_, refl, sym, ap, _∙_}
-use mathlib.Core.Bool.{Bool, true, false, cond, not, _&&_, _||_, false≢true}
-use mathlib.Core.List.{List, [], _∷_, _++_, map, append-assoc}
+use mathlib.Core.Bool.{Bool, true, false, cond, _&&_, _||_, false≢true}
+use mathlib.Core.List.{List, [], _∷_, _++_, map}
 use lib.Dec.{eqb}
-use lib.ListN.{length, getD, set, take, drop, length-drop, length-append, take-append-drop, List·getD-eq-default}
-use lib.Seq.{paste, drop-cons, getD-take, getD-drop, drop-drop, take-all, take-take, take-add, take-append-add, drop-append-add, drop-at, length-take-le}
-use borrow.Author.Tests.{eqb-true, eq-eqb}
-use Rattle.laws.specs.Choice.{else}
+use lib.ListN.{length, getD, set, take, drop, length-drop, length-append, take-append-drop, List·getD-map}
+use lib.Seq.{paste, drop-cons, getD-drop, take-all, take-take, take-add, take-append-add, take-append-le, drop-append-add, drop-at, length-take-le}
+use borrow.Author.Tests.{eqb-true}
+use Rattle.laws.specs.Bools.{guard-passed}
+use Rattle.laws.specs.Pastes.{paste-behind, paste-rest}
 use Rattle.transport.specs.declared.Kind.the-variants.{Rts, Bam}
+use Rattle.progress.specs.declared.Progress.{Progress}
 use Rattle.session.specs.declared.Session.{Session}
 use Rattle.slots.specs.declared.Slot.{Slot}
-use Rattle.slots.specs.declared.SlotState.{SlotState}
-use Rattle.slots.specs.declared.SlotState.the-variants.{Free, Open}
-use Rattle.slots.specs.Slots.{isFree}
-use Rattle.receiver.specs.declared.Receiver.{Receiver}
+use Rattle.session.specs.declared.State.{State}
+use Rattle.session.specs.declared.State.the-variants.{Closed, Open}
+use Rattle.slots.specs.Slots.{freeSlot, isFree}
 use Rattle.receiver.specs.Calls.{withSlot}
+use Rattle.record_bytes.specs.Places.{headLength, slotLength, limitPlace, lastPlace, announcedLength, progressLength, slotPlace, progressPlace}
 use Rattle.record_bytes.specs.Layout.{low4, low32, kindByte, kindAt, progressBytes, sessionBytes, sessionAt, slotBytes, codesOk, slotAt, headBytes, pieces, piecesOf, codesAll, slotsAt, isRecord, recordAt}
 use Rattle.record_bytes.specs.Written.{both, same-byte, low4-bytes}
 use Rattle.record_bytes.specs.Pieces.{length-slot, length-pieces, piece-of, record-long, record-codes}
@@ -78,7 +79,7 @@ four p at h e =
 
 -- a piece of a record
 pub record Good (p : List ℕ) : Type 0 where
-  pub long : length p ≡ 30
+  pub long : length p ≡ slotLength
   pub bytes : Bytes p
   pub codes : codesOk (getD p 0 0) (getD p 1 0) ≡ true
 
@@ -91,11 +92,11 @@ kind-of n false e h = one (eqb n 1) refl
     one false q = absurd (false≢true (sym e ∙ sym (ap (λ (t : Bool). t || eqb n 2) q) ∙ h))
 
 -- an open slot's piece is the bytes of its session
-session-spelled : (p : List ℕ) → length p ≡ 30 → Bytes p → getD p 0 0 ≡ 1 → getD p 1 0 ≡ kindByte (kindAt (getD p 1 0)) → p ≡ sessionBytes (sessionAt p)
+session-spelled : (p : List ℕ) → length p ≡ slotLength → Bytes p → getD p 0 0 ≡ 1 → getD p 1 0 ≡ kindByte (kindAt (getD p 1 0)) → p ≡ sessionBytes (sessionAt p)
 unfolding sessionBytes
 session-spelled p long h e k =
-    sym (take-all 30 p (omega arith))
-    ∙ spelled 30 0 p (omega arith)
+    sym (take-all slotLength p (omega arith))
+    ∙ spelled slotLength 0 p (omega arith)
     ∙ both e
     (both k
     (same-byte _
@@ -105,7 +106,7 @@ session-spelled p long h e k =
     (four p 9 h
     (same-byte _
     (four p 14 h
-    (four p 18 h
+    (four p announcedLength h
     (four p 22 h
     (four p 26 h refl)))))))))))
 
@@ -124,7 +125,7 @@ codes-free x k false q e h =
 module _ (p : List ℕ) (g : Good p) where
   -- the slot by its state code
   abbrev slotBy : Bool → Slot
-  slotBy t = record { state = cond t (Open (sessionAt p)) Free }
+  slotBy t = record { state = cond t (Open (sessionAt p)) Closed }
 
   kept-by : (t : Bool) → eqb (getD p 0 0) 1 ≡ t → kept p (slotBy t) ≡ p
   kept-by true e =
@@ -134,13 +135,13 @@ module _ (p : List ℕ) (g : Good p) where
       ap (λ (t : Bool). cond t p (slotBytes (slotBy false))) (codes-free (getD p 0 0) (getD p 1 0) (eqb (getD p 0 0) 0) refl e (g .codes))
 
   -- a slot that is put back as it was read keeps its piece
-  kept-same : kept p (slotAt p) ≡ p
+  pub kept-same : kept p (slotAt p) ≡ p
   kept-same = kept-by (eqb (getD p 0 0) 1) refl
 
-  kept-long : (s : Slot) → length (kept p s) ≡ 30
+  kept-long : (s : Slot) → length (kept p s) ≡ slotLength
   kept-long s = by (isFree s && eqb (getD p 0 0) 0)
     where
-      by : (t : Bool) → length (cond t p (slotBytes s)) ≡ 30
+      by : (t : Bool) → length (cond t p (slotBytes s)) ≡ slotLength
       by true = g .long
       by false = length-slot s
 
@@ -154,25 +155,21 @@ abbrev joined : List (List ℕ) → List ℕ
 joined [] = []
 joined (p ∷ ps) = p ++ joined ps
 
-joined-pieces : (n : ℕ) (b : List ℕ) → length b ≡ 30 * n → joined (pieces n b) ≡ b
+joined-pieces : (n : ℕ) (b : List ℕ) → length b ≡ slotLength * n → joined (pieces n b) ≡ b
 unfolding pieces
 joined-pieces zero [] e = refl
 joined-pieces zero (x ∷ b) e = absurd (omega arith)
 joined-pieces (suc n) b e =
-    ap (λ (l : List ℕ). take 30 b ++ l) (joined-pieces n (drop 30 b) (length-drop 30 b ∙ omega arith))
-    ∙ take-append-drop 30 b
+    ap (λ (l : List ℕ). take slotLength b ++ l) (joined-pieces n (drop slotLength b) (length-drop slotLength b ∙ omega arith))
+    ∙ take-append-drop slotLength b
 
-codes-head : (t u : Bool) → cond (not t) false u ≡ true → (t ≡ true) × (u ≡ true)
-codes-head true u e = (refl, e)
-codes-head false u e = absurd (false≢true e)
-
-all-good : (n : ℕ) (b : List ℕ) → length b ≡ 30 * n → Bytes b → codesAll (pieces n b) ≡ true → AllGood (pieces n b)
+all-good : (n : ℕ) (b : List ℕ) → length b ≡ slotLength * n → Bytes b → codesAll (pieces n b) ≡ true → AllGood (pieces n b)
 unfolding pieces codesAll
 all-good zero b e h c = tt
 all-good (suc n) b e h c =
-    let (p, q) = codes-head (codesOk (getD (take 30 b) 0 0) (getD (take 30 b) 1 0)) (codesAll (pieces n (drop 30 b))) c in (
-      record { long = length-take-le 30 b (omega arith); bytes = bytes-take 30 b h; codes = p },
-      all-good n (drop 30 b) (length-drop 30 b ∙ omega arith) (bytes-drop 30 b h) q,
+    let (p, q) = guard-passed (codesOk (getD (take slotLength b) 0 0) (getD (take slotLength b) 1 0)) (codesAll (pieces n (drop slotLength b))) c in (
+      record { long = length-take-le slotLength b (omega arith); bytes = bytes-take slotLength b h; codes = p },
+      all-good n (drop slotLength b) (length-drop slotLength b ∙ omega arith) (bytes-drop slotLength b h) q,
     )
 
 merged-same : (ps : List (List ℕ)) → AllGood ps → merged ps (map slotAt ps) ≡ joined ps
@@ -182,101 +179,98 @@ merged-same (p ∷ ps) (g, gs) =
     ap (λ (l : List ℕ). l ++ merged ps (map slotAt ps)) (kept-same p g)
     ∙ ap (λ (l : List ℕ). p ++ l) (merged-same ps gs)
 
--- a copy behind a front
-paste-behind : (p x q : List ℕ) (m k n : ℕ) → length p ≡ m → paste (p ++ x) (m + k) q n ≡ p ++ paste x k q n
-paste-behind p x q m k n e =
-    let w : length p + (k + n) ≡ m + k + n = omega arith in
-    let v : length p + k ≡ m + k = omega arith in
-    ap (λ (j : ℕ). take j (p ++ x) ++ take n q ++ drop (m + k + n) (p ++ x)) (sym v)
-    ∙ ap (λ (l : List ℕ). l ++ take n q ++ drop (m + k + n) (p ++ x)) (take-append-add p x k)
-    ∙ ap (λ (j : ℕ). p ++ take k x ++ take n q ++ drop j (p ++ x)) (sym w)
-    ∙ ap (λ (l : List ℕ). p ++ take k x ++ take n q ++ l) (drop-append-add p x (k + n))
-    ∙ ap (λ (l : List ℕ). l ++ drop (k + n) x) (append-assoc p (take k x) (take n q))
-    ∙ append-assoc p (take k x ++ take n q) (drop (k + n) x)
-
 -- one slot changed is one piece changed
 merged-set : (ps : List (List ℕ)) (i : ℕ) (s : Slot) → AllGood ps → i < length ps
-    → merged ps (set (map slotAt ps) i s) ≡ paste (joined ps) (30 * i) (kept (getD ps i []) s) 30
+    → merged ps (set (map slotAt ps) i s) ≡ paste (joined ps) (slotLength * i) (kept (getD ps i []) s) slotLength
 unfolding merged
 merged-set [] i s g h = absurd (omega arith)
 merged-set (p ∷ ps) zero s (g, gs) h =
-    ap (λ (l : List ℕ). kept p s ++ l) (merged-same ps gs ∙ sym (drop-at p (joined ps) 30 (g .long)))
-    ∙ ap (λ (l : List ℕ). l ++ drop 30 (p ++ joined ps)) (sym (take-all 30 (kept p s) (omega (arith, kept-long p g s))))
+    ap (λ (l : List ℕ). kept p s ++ l) (merged-same ps gs ∙ sym (drop-at p (joined ps) slotLength (g .long)))
+    ∙ ap (λ (l : List ℕ). l ++ drop slotLength (p ++ joined ps)) (sym (take-all slotLength (kept p s) (omega (arith, kept-long p g s))))
 merged-set (p ∷ ps) (suc i) s (g, gs) h =
-    let w : 30 + 30 * i ≡ 30 * suc i = omega arith in
+    let w : slotLength + slotLength * i ≡ slotLength * suc i = omega arith in
     let q : List ℕ = kept (getD ps i []) s in
     ap (λ (l : List ℕ). l ++ merged ps (set (map slotAt ps) i s)) (kept-same p g)
     ∙ ap (λ (l : List ℕ). p ++ l) (merged-set ps i s gs (omega arith))
-    ∙ sym (paste-behind p (joined ps) q 30 (30 * i) 30 (g .long))
-    ∙ ap (λ (j : ℕ). paste (p ++ joined ps) j q 30) w
+    ∙ sym (paste-behind p (joined ps) q slotLength (slotLength * i) slotLength (g .long))
+    ∙ ap (λ (j : ℕ). paste (p ++ joined ps) j q slotLength) w
 
 -- ---- the record
 
 module _ (b : List ℕ) (h : Bytes b) (r : isRecord b ≡ true) where
   good-record : AllGood (piecesOf b)
-  good-record = all-good 8 (drop 9 b) (length-drop 9 b ∙ omega (arith, record-long b r)) (bytes-drop 9 b h) (record-codes b r)
+  good-record = all-good 8 (drop headLength b) (length-drop headLength b ∙ omega (arith, record-long b r)) (bytes-drop headLength b h) (record-codes b r)
 
-  all-joined : joined (piecesOf b) ≡ drop 9 b
-  all-joined = joined-pieces 8 (drop 9 b) (length-drop 9 b ∙ omega (arith, record-long b r))
+  all-joined : joined (piecesOf b) ≡ drop headLength b
+  all-joined = joined-pieces 8 (drop headLength b) (length-drop headLength b ∙ omega (arith, record-long b r))
 
-  head-same : headBytes (recordAt b) ≡ take 9 b
+  head-same : headBytes (recordAt b) ≡ take headLength b
   unfolding headBytes
   head-same =
-      sym (spelled 9 0 b (omega (arith, record-long b r)) ∙ same-byte _ (four b 1 h (four b 5 h refl)))
+      sym (spelled headLength 0 b (omega (arith, record-long b r)) ∙ same-byte _ (four b limitPlace h (four b lastPlace h refl)))
 
   -- a record put back as it was read changes no byte
   pub keep : putIn b (recordAt b) ≡ b
   unfolding putIn
   keep =
       ap (λ (l : List ℕ). l ++ merged (piecesOf b) (slotsAt b)) head-same
-      ∙ ap (λ (l : List ℕ). take 9 b ++ l) (merged-same (piecesOf b) good-record ∙ all-joined)
-      ∙ take-append-drop 9 b
+      ∙ ap (λ (l : List ℕ). take headLength b ++ l) (merged-same (piecesOf b) good-record ∙ all-joined)
+      ∙ take-append-drop headLength b
 
   -- another state of one slot changes its piece and no other byte
-  pub put-one : (i : ℕ) (st : SlotState) → i < 8 → putIn b (withSlot (recordAt b) i st) ≡ paste b (9 + 30 * i) (kept (getD (piecesOf b) i []) (record { state = st })) 30
+  pub put-one : (i : ℕ) (st : State) → i < 8 → putIn b (withSlot (recordAt b) i st) ≡ paste b (slotPlace i) (kept (getD (piecesOf b) i []) (record { state = st })) slotLength
   unfolding putIn headBytes
   put-one i st low =
       let q : List ℕ = kept (getD (piecesOf b) i []) (record { state = st }) in
       ap (λ (l : List ℕ). l ++ merged (piecesOf b) (set (slotsAt b) i (record { state = st }))) head-same
-      ∙ ap (λ (l : List ℕ). take 9 b ++ l) (merged-set (piecesOf b) i (record { state = st }) good-record (omega (arith, length-pieces 8 (drop 9 b))))
-      ∙ ap (λ (l : List ℕ). take 9 b ++ paste l (30 * i) q 30) all-joined
-      ∙ sym (paste-behind (take 9 b) (drop 9 b) q 9 (30 * i) 30 (length-take-le 9 b (omega (arith, record-long b r))))
-      ∙ ap (λ (l : List ℕ). paste l (9 + 30 * i) q 30) (take-append-drop 9 b)
+      ∙ ap (λ (l : List ℕ). take headLength b ++ l) (merged-set (piecesOf b) i (record { state = st }) good-record (omega (arith, length-pieces 8 (drop headLength b))))
+      ∙ ap (λ (l : List ℕ). take headLength b ++ paste l (slotLength * i) q slotLength) all-joined
+      ∙ sym (paste-behind (take headLength b) (drop headLength b) q headLength (slotLength * i) slotLength (length-take-le headLength b (omega (arith, record-long b r))))
+      ∙ ap (λ (l : List ℕ). paste l (slotPlace i) q slotLength) (take-append-drop headLength b)
 
--- ---- one session brought forward
+  -- other slots over their pieces, and another last reading in its four bytes
+  pub put-elapsed : (last : ℕ) (ss : List Slot) → paste (take headLength b ++ merged (piecesOf b) ss) lastPlace (low4 last []) 4 ≡ putIn b (record { own = recordAt b .own; limit = recordAt b .limit; last = last; slots = ss })
+  unfolding putIn headBytes
+  put-elapsed last ss =
+      let M : List ℕ = merged (piecesOf b) ss in
+      let nine : length (take headLength b) ≡ headLength = length-take-le headLength b (omega (arith, record-long b r)) in
+      ap (λ (l : List ℕ). l ++ low4 last [] ++ drop headLength (take headLength b ++ M))
+      (take-append-le lastPlace (take headLength b) M (omega arith) ∙ take-take lastPlace headLength b (omega arith) ∙ spelled lastPlace 0 b (omega (arith, record-long b r)) ∙ same-byte _ (four b limitPlace h refl))
+      ∙ ap (λ (l : List ℕ). headBytes (record { own = recordAt b .own; limit = recordAt b .limit; last = last; slots = ss }) ++ l) (drop-at (take headLength b) M headLength nine)
+
+-- ---- one slot
 
 good-at : (ps : List (List ℕ)) (i : ℕ) → AllGood ps → i < length ps → Good (getD ps i [])
 good-at [] i g h = absurd (omega arith)
 good-at (p ∷ ps) zero (g, gs) h = g
 good-at (p ∷ ps) (suc i) (g, gs) h = good-at ps i gs (omega arith)
 
--- a copy whose front is there already is a copy of the rest
-paste-rest : (d x p : List ℕ) (at n m : ℕ) → take n (drop at d) ≡ x → length x ≡ n → length p ≡ m → paste d at (x ++ p) (n + m) ≡ paste d (at + n) p m
-paste-rest d x p at n m e h g =
-    let w : at + (n + m) ≡ at + n + m = omega arith in
-    ap (λ (l : List ℕ). take at d ++ l ++ drop (at + (n + m)) d) (take-all (n + m) (x ++ p) (let l : length (x ++ p) ≡ length x + length p = length-append x p in omega arith))
-    ∙ ap (λ (k : ℕ). take at d ++ (x ++ p) ++ drop k d) w
-    ∙ ap (λ (l : List ℕ). l ++ drop (at + n + m) d) (sym (append-assoc (take at d) x p) ∙ ap (λ (l : List ℕ). take at d ++ l ++ p) (sym e) ∙ ap (λ (l : List ℕ). l ++ p) (sym (take-add at n d)))
-    ∙ ap (λ (l : List ℕ). take (at + n) d ++ l ++ drop (at + n + m) d) (sym (take-all m p (omega arith)))
+pub good-piece : (b : List ℕ) → Bytes b → isRecord b ≡ true → (i : ℕ) → i < 8 → Good (getD (piecesOf b) i [])
+good-piece b h r i low = good-at (piecesOf b) i (good-record b h r) (omega (arith, length-pieces 8 (drop headLength b)))
 
-module _ (b : List ℕ) (h : Bytes b) (r : isRecord b ≡ true) (i : ℕ) (low : i < 8) (s : Session) (st : slotAt (getD (piecesOf b) i []) .state ≡ Open s) where
+-- ---- one session brought forward
+
+module _ (b : List ℕ) (h : Bytes b) (r : isRecord b ≡ true) (i : ℕ) (low : i < 8) (s : Session)
+    (st : getD (slotsAt b) i freeSlot .state ≡ Open s) where
   -- an open slot's piece is the bytes of its session
   piece-open : getD (piecesOf b) i [] ≡ sessionBytes s
   piece-open =
       let p : List ℕ = getD (piecesOf b) i [] in
-      sym (kept-same p (good-at (piecesOf b) i (good-record b h r) (omega (arith, length-pieces 8 (drop 9 b)))))
-      ∙ ap (λ (x : SlotState). kept p (record { state = x })) st
+      sym (kept-same p (good-piece b h r i low))
+      ∙ ap (λ (x : Slot). kept p x) (sym (List·getD-map slotAt (piecesOf b) i []))
+      ∙ ap (λ (x : State). kept p (record { state = x })) st
 
-  -- what a segment changes of a session are its last 12 bytes
-  pub put-forward : (next granted mark : ℕ)
-      → (let t : Session = record { key = s .key; kind = s .kind; total = s .total; segments = s .segments; max = s .max; pgn = s .pgn; next = record { 0 = next }; granted = record { 0 = granted }; mark = mark } in
-      paste b (27 + 30 * i) (progressBytes t) 12 ≡ paste b (9 + 30 * i) (sessionBytes t) 30)
+  -- what a segment changes of a session are its last bytes
+  pub put-forward : (p : Progress)
+      → putIn b (withSlot (recordAt b) i (Open (record { announced = s .announced; progress = p })))
+      ≡ paste b (progressPlace i) (progressBytes p) progressLength
   unfolding sessionBytes
-  put-forward next granted mark =
-      let t : Session = record { key = s .key; kind = s .kind; total = s .total; segments = s .segments; max = s .max; pgn = s .pgn; next = record { 0 = next }; granted = record { 0 = granted }; mark = mark } in
-      let front : List ℕ = take 18 (sessionBytes s) in
-      let w : 9 + 30 * i + 18 ≡ 27 + 30 * i = omega arith in
-      let e : take 18 (drop (9 + 30 * i) b) ≡ front =
-      sym (take-take 18 30 (drop (9 + 30 * i) b) (omega arith)) ∙ ap (take 18) (sym (piece-of b i low) ∙ piece-open) in
-      ap (λ (k : ℕ). paste b k (progressBytes t) 12) (sym w)
-      ∙ sym (paste-rest b front (progressBytes t) (9 + 30 * i) 18 12 e refl refl)
+  put-forward p =
+      let t : Session = record { announced = s .announced; progress = p } in
+      let front : List ℕ = take announcedLength (sessionBytes s) in
+      let w : slotPlace i + announcedLength ≡ progressPlace i = omega arith in
+      let e : take announcedLength (drop (slotPlace i) b) ≡ front =
+      sym (take-take announcedLength slotLength (drop (slotPlace i) b) (omega arith)) ∙ ap (take announcedLength) (sym (piece-of b i low) ∙ piece-open) in
+      put-one b h r i (Open t) low
+      ∙ paste-rest b front (progressBytes p) (slotPlace i) announcedLength progressLength e refl refl
+      ∙ ap (λ (k : ℕ). paste b k (progressBytes p) progressLength) w

@@ -7,11 +7,14 @@ use lib.Dec.{eqb}
 use lib.ListN.{length, getD, take, drop, replicate}
 use Rattle.transport.specs.declared.Kind.{Kind}
 use Rattle.transport.specs.declared.Kind.the-variants.{Rts, Bam}
+use Rattle.progress.specs.declared.Announced.{Announced}
+use Rattle.progress.specs.declared.Progress.{Progress}
 use Rattle.session.specs.declared.Session.{Session}
 use Rattle.slots.specs.declared.Slot.{Slot}
-use Rattle.slots.specs.declared.SlotState.{SlotState}
-use Rattle.slots.specs.declared.SlotState.the-variants.{Free, Open}
+use Rattle.session.specs.declared.State.{State}
+use Rattle.session.specs.declared.State.the-variants.{Closed, Open}
 use Rattle.receiver.specs.declared.Receiver.{Receiver}
+use Rattle.record_bytes.specs.Places.{recordLength, headLength, slotLength, limitPlace, lastPlace, announcedLength}
 
 -- four bytes, low byte first
 abbrev pub low32 : List ℕ → ℕ → ℕ
@@ -21,7 +24,7 @@ low32 s at = getD s at 0 + 256 * getD s (at + 1) 0 + 65536 * getD s (at + 2) 0 +
 abbrev pub low4 : ℕ → List ℕ → List ℕ
 low4 n rest = n % 256 ∷ n / 256 % 256 ∷ n / 65536 % 256 ∷ n / 16777216 % 256 ∷ rest
 
--- ---- a slot: 30 bytes
+-- ---- a slot
 
 -- how the message is transferred: 1 RTS, 2 BAM
 abbrev pub kindByte : Kind → ℕ
@@ -32,23 +35,23 @@ abbrev pub kindAt : ℕ → Kind
 kindAt n = cond (eqb n 2) Bam Rts
 
 -- what each segment brings forward: next segment, last granted, mark
-abbrev pub progressBytes : Session → List ℕ
-progressBytes s = low4 (s .next .0) (low4 (s .granted .0) (low4 (s .mark) []))
+abbrev pub progressBytes : Progress → List ℕ
+progressBytes p = low4 (p .next .0) (low4 (p .granted .0) (low4 (p .mark) []))
 
 -- open: 1, kind, SA, DA, session number, Total Bytes, segments, MAX SGMTS, PGN, next segment, last granted, mark
 unfoldable pub sessionBytes : Session → List ℕ
 sessionBytes s =
     1
-    ∷ kindByte (s .kind)
-    ∷ s .key .sa .0
-    ∷ s .key .da .0
-    ∷ s .key .session .0
-    ∷ low4 (s .total .0)
-    (low4 (s .segments .0)
-    (s .max ∷ low4 (s .pgn) (progressBytes s)))
+    ∷ kindByte (s .announced .kind)
+    ∷ s .announced .key .sa .0
+    ∷ s .announced .key .da .0
+    ∷ s .announced .key .session .0
+    ∷ low4 (s .announced .total .0)
+    (low4 (s .announced .segments .0)
+    (s .announced .max ∷ low4 (s .announced .pgn) (progressBytes (s .progress))))
 
-abbrev pub sessionAt : List ℕ → Session
-sessionAt b =
+abbrev pub announcedAt : List ℕ → Announced
+announcedAt b =
     record {
       key = record {
         sa = record { 0 = getD b 2 0 };
@@ -60,14 +63,22 @@ sessionAt b =
       segments = record { 0 = low32 b 9 };
       max = getD b 13 0;
       pgn = low32 b 14;
-      next = record { 0 = low32 b 18 };
+    }
+
+abbrev pub progressAt : List ℕ → Progress
+progressAt b =
+    record {
+      next = record { 0 = low32 b announcedLength };
       granted = record { 0 = low32 b 22 };
       mark = low32 b 26;
     }
 
+abbrev pub sessionAt : List ℕ → Session
+sessionAt b = record { announced = announcedAt b; progress = progressAt b }
+
 -- free: zeros
-abbrev pub stateBytes : SlotState → List ℕ
-stateBytes Free = replicate 30 0
+abbrev pub stateBytes : State → List ℕ
+stateBytes Closed = replicate slotLength 0
 stateBytes (Open s) = sessionBytes s
 
 abbrev pub slotBytes : Slot → List ℕ
@@ -78,9 +89,9 @@ abbrev pub codesOk : ℕ → ℕ → Bool
 codesOk state kind = eqb state 0 || (eqb state 1 && (eqb kind 1 || eqb kind 2))
 
 abbrev pub slotAt : List ℕ → Slot
-slotAt b = record { state = cond (eqb (getD b 0 0) 1) (Open (sessionAt b)) Free }
+slotAt b = record { state = cond (eqb (getD b 0 0) 1) (Open (sessionAt b)) Closed }
 
--- ---- the record: 9 bytes, and 30 for each slot
+-- ---- the record: its head, and the slots
 
 unfoldable pub headBytes : Receiver → List ℕ
 headBytes r = r .own .0 ∷ low4 (r .limit) (low4 (r .last) [])
@@ -92,21 +103,21 @@ slotsBytes (s ∷ ss) = slotBytes s ++ slotsBytes ss
 abbrev pub recordBytes : Receiver → List ℕ
 recordBytes r = headBytes r ++ slotsBytes (r .slots)
 
--- slots put behind the first 9 bytes of a buffer
+-- slots put behind the head in a buffer
 abbrev pub written : List Slot → List ℕ → List ℕ
-written ss d = take 9 d ++ slotsBytes ss
+written ss d = take headLength d ++ slotsBytes ss
 
--- A buffer of 249 bytes takes the record; any other is left as it is.
+-- A buffer of a record's length takes the record; any other is left as it is.
 unfoldable pub storedIn : Receiver → List ℕ → Bool × List ℕ
-storedIn r d = cond (not (eqb (length d) 249)) (false, d) (true, recordBytes r)
+storedIn r d = cond (not (eqb (length d) recordLength)) (false, d) (true, recordBytes r)
 
--- n pieces of 30 bytes
+-- n pieces, each as long as a slot
 unfoldable pub pieces : ℕ → List ℕ → List (List ℕ)
 pieces zero b = []
-pieces (suc n) b = take 30 b ∷ pieces n (drop 30 b)
+pieces (suc n) b = take slotLength b ∷ pieces n (drop slotLength b)
 
 abbrev pub piecesOf : List ℕ → List (List ℕ)
-piecesOf b = pieces 8 (drop 9 b)
+piecesOf b = pieces 8 (drop headLength b)
 
 unfoldable pub codesAll : List (List ℕ) → Bool
 codesAll [] = true
@@ -115,10 +126,10 @@ codesAll (p ∷ ps) = cond (not (codesOk (getD p 0 0) (getD p 1 0))) false (code
 abbrev pub slotsAt : List ℕ → List Slot
 slotsAt b = map slotAt (piecesOf b)
 
--- A buffer is a record if it has 249 bytes and each slot begins with codes.
+-- A buffer is a record if it has a record's length and each slot begins with codes.
 unfoldable pub isRecord : List ℕ → Bool
-isRecord b = cond (not (eqb (length b) 249)) false (codesAll (piecesOf b))
+isRecord b = cond (not (eqb (length b) recordLength)) false (codesAll (piecesOf b))
 
 abbrev pub recordAt : List ℕ → Receiver
 recordAt b =
-    record { own = record { 0 = getD b 0 0 }; limit = low32 b 1; last = low32 b 5; slots = slotsAt b }
+    record { own = record { 0 = getD b 0 0 }; limit = low32 b limitPlace; last = low32 b lastPlace; slots = slotsAt b }

@@ -1,7 +1,8 @@
+pub mod Places
 pub mod Layout
 pub mod Written
 pub mod Pieces
 pub mod Keeping
 pub mod Kept
 pub mod RoundTrip
-pub mod Carried
+pub mod PutBack

@@ -12,12 +12,15 @@ use Rattle.laws.specs.Choice.{else}
 use Rattle.frame.specs.declared.Address.{Address}
 use Rattle.transport.specs.declared.Kind.{Kind}
 use Rattle.transport.specs.declared.Kind.the-variants.{Rts, Bam}
+use Rattle.progress.specs.declared.Announced.{Announced}
+use Rattle.progress.specs.declared.Progress.{Progress}
 use Rattle.session.specs.declared.Session.{Session}
 use Rattle.slots.specs.declared.Slot.{Slot}
-use Rattle.slots.specs.declared.SlotState.{SlotState}
-use Rattle.slots.specs.declared.SlotState.the-variants.{Free, Open}
+use Rattle.session.specs.declared.State.{State}
+use Rattle.session.specs.declared.State.the-variants.{Closed, Open}
 use Rattle.receiver.specs.declared.Receiver.{Receiver}
-use Rattle.record_bytes.specs.Layout.{low4, low32, kindByte, kindAt, sessionBytes, sessionAt, stateBytes, slotBytes, codesOk, slotAt, headBytes, slotsBytes, recordBytes, pieces, piecesOf, codesAll, slotsAt, isRecord, recordAt}
+use Rattle.record_bytes.specs.Places.{recordLength, headLength, slotLength}
+use Rattle.record_bytes.specs.Layout.{low4, low32, kindByte, kindAt, announcedAt, progressAt, sessionBytes, sessionAt, stateBytes, slotBytes, codesOk, slotAt, headBytes, slotsBytes, recordBytes, pieces, piecesOf, codesAll, slotsAt, isRecord, recordAt}
 use Rattle.record_bytes.specs.Pieces.{length-slots, pieces-slots}
 
 -- Four bytes hold a number below 2^32.
@@ -41,15 +44,15 @@ low32-read-back n h =
 
 -- The numbers are no larger than their places. (Addresses, session number and MAX SGMTS are a byte as they are.)
 pub record SessionFits (s : Session) : Type 0 where
-  pub total : s .total .0 < 4294967296
-  pub segments : s .segments .0 < 4294967296
-  pub pgn : s .pgn < 4294967296
-  pub next : s .next .0 < 4294967296
-  pub granted : s .granted .0 < 4294967296
-  pub mark : s .mark < 4294967296
+  pub total : s .announced .total .0 < 4294967296
+  pub segments : s .announced .segments .0 < 4294967296
+  pub pgn : s .announced .pgn < 4294967296
+  pub next : s .progress .next .0 < 4294967296
+  pub granted : s .progress .granted .0 < 4294967296
+  pub mark : s .progress .mark < 4294967296
 
-abbrev pub StateFits : SlotState → Type 0
-StateFits Free = Unit {0}
+abbrev pub StateFits : State → Type 0
+StateFits Closed = Unit {0}
 StateFits (Open s) = SessionFits s
 
 abbrev pub SlotsFit : List Slot → Type 0
@@ -66,23 +69,37 @@ kind-back : (k : Kind) → kindAt (kindByte k) ≡ k
 kind-back Rts = refl
 kind-back Bam = refl
 
-session-back : (s : Session) → SessionFits s → sessionAt (sessionBytes s) ≡ s
+announced-back : (s : Session) → SessionFits s → announcedAt (sessionBytes s) ≡ s .announced
 unfolding sessionBytes
-session-back s f =
-    let made : Kind → ℕ → ℕ → ℕ → ℕ → ℕ → ℕ → Session =
-    λ (k : Kind) (t g p n q m : ℕ). record { key = s .key; kind = k; total = record { 0 = t }; segments = record { 0 = g }; max = s .max; pgn = p; next = record { 0 = n }; granted = record { 0 = q }; mark = m } in
+announced-back s f =
+    let a : Announced = s .announced in
+    let made : Kind → ℕ → ℕ → ℕ → Announced =
+    λ (k : Kind) (t g p : ℕ). record { key = a .key; kind = k; total = record { 0 = t }; segments = record { 0 = g }; max = a .max; pgn = p } in
     let W : ℕ → ℕ = fourBytes in
-    ap (λ (k : Kind). made k (W (s .total .0)) (W (s .segments .0)) (W (s .pgn)) (W (s .next .0)) (W (s .granted .0)) (W (s .mark))) (kind-back (s .kind))
-    ∙ ap (λ (x : ℕ). made (s .kind) x (W (s .segments .0)) (W (s .pgn)) (W (s .next .0)) (W (s .granted .0)) (W (s .mark))) (low32-read-back (s .total .0) (f .total))
-    ∙ ap (λ (x : ℕ). made (s .kind) (s .total .0) x (W (s .pgn)) (W (s .next .0)) (W (s .granted .0)) (W (s .mark))) (low32-read-back (s .segments .0) (f .segments))
-    ∙ ap (λ (x : ℕ). made (s .kind) (s .total .0) (s .segments .0) x (W (s .next .0)) (W (s .granted .0)) (W (s .mark))) (low32-read-back (s .pgn) (f .pgn))
-    ∙ ap (λ (x : ℕ). made (s .kind) (s .total .0) (s .segments .0) (s .pgn) x (W (s .granted .0)) (W (s .mark))) (low32-read-back (s .next .0) (f .next))
-    ∙ ap (λ (x : ℕ). made (s .kind) (s .total .0) (s .segments .0) (s .pgn) (s .next .0) x (W (s .mark))) (low32-read-back (s .granted .0) (f .granted))
-    ∙ ap (λ (x : ℕ). made (s .kind) (s .total .0) (s .segments .0) (s .pgn) (s .next .0) (s .granted .0) x) (low32-read-back (s .mark) (f .mark))
+    ap (λ (k : Kind). made k (W (a .total .0)) (W (a .segments .0)) (W (a .pgn))) (kind-back (a .kind))
+    ∙ ap (λ (x : ℕ). made (a .kind) x (W (a .segments .0)) (W (a .pgn))) (low32-read-back (a .total .0) (f .total))
+    ∙ ap (λ (x : ℕ). made (a .kind) (a .total .0) x (W (a .pgn))) (low32-read-back (a .segments .0) (f .segments))
+    ∙ ap (λ (x : ℕ). made (a .kind) (a .total .0) (a .segments .0) x) (low32-read-back (a .pgn) (f .pgn))
 
-pub state-back : (st : SlotState) → StateFits st → slotAt (stateBytes st) ≡ record { state = st }
+progress-back : (s : Session) → SessionFits s → progressAt (sessionBytes s) ≡ s .progress
 unfolding sessionBytes
-state-back Free f = refl
+progress-back s f =
+    let p : Progress = s .progress in
+    let made : ℕ → ℕ → ℕ → Progress =
+    λ (n g m : ℕ). record { next = record { 0 = n }; granted = record { 0 = g }; mark = m } in
+    let W : ℕ → ℕ = fourBytes in
+    ap (λ (x : ℕ). made x (W (p .granted .0)) (W (p .mark))) (low32-read-back (p .next .0) (f .next))
+    ∙ ap (λ (x : ℕ). made (p .next .0) x (W (p .mark))) (low32-read-back (p .granted .0) (f .granted))
+    ∙ ap (λ (x : ℕ). made (p .next .0) (p .granted .0) x) (low32-read-back (p .mark) (f .mark))
+
+session-back : (s : Session) → SessionFits s → sessionAt (sessionBytes s) ≡ s
+session-back s f =
+    ap (λ (a : Announced). record { announced = a; progress = progressAt (sessionBytes s) }) (announced-back s f)
+    ∙ ap (λ (p : Progress). record { announced = s .announced; progress = p }) (progress-back s f)
+
+pub state-back : (st : State) → StateFits st → slotAt (stateBytes st) ≡ record { state = st }
+unfolding sessionBytes
+state-back Closed f = refl
 state-back (Open s) f = ap (λ (x : Session). record { state = Open x }) (session-back s f)
 
 slots-back : (ss : List Slot) → SlotsFit ss → map slotAt (map slotBytes ss) ≡ ss
@@ -95,10 +112,10 @@ kind-code : (k : Kind) → (eqb (kindByte k) 1 || eqb (kindByte k) 2) ≡ true
 kind-code Rts = refl
 kind-code Bam = refl
 
-pub codes-state : (st : SlotState) → codesOk (getD (stateBytes st) 0 0) (getD (stateBytes st) 1 0) ≡ true
+pub codes-state : (st : State) → codesOk (getD (stateBytes st) 0 0) (getD (stateBytes st) 1 0) ≡ true
 unfolding sessionBytes
-codes-state Free = refl
-codes-state (Open s) = kind-code (s .kind)
+codes-state Closed = refl
+codes-state (Open s) = kind-code (s .announced .kind)
 
 codes-slots : (ss : List Slot) → codesAll (map slotBytes ss) ≡ true
 unfolding codesAll
@@ -107,12 +124,12 @@ codes-slots (s ∷ ss) =
     ap (λ (t : Bool). cond (not t) false (codesAll (map slotBytes ss))) (codes-state (s .state)) ∙ codes-slots ss
 
 module _ (r : Receiver) (f : RecordFits r) where
-  pub length-record : length (recordBytes r) ≡ 249
+  pub length-record : length (recordBytes r) ≡ recordLength
   unfolding headBytes
   length-record =
-      let a : length (slotsBytes (r .slots)) ≡ 30 * length (r .slots) = length-slots (r .slots) in
+      let a : length (slotsBytes (r .slots)) ≡ slotLength * length (r .slots) = length-slots (r .slots) in
       let e : length (r .slots) ≡ 8 = f .eight in
-      let h : length (headBytes r) ≡ 9 = refl in
+      let h : length (headBytes r) ≡ headLength = refl in
       length-append (headBytes r) (slotsBytes (r .slots)) ∙ omega arith
 
   pieces-record : piecesOf (recordBytes r) ≡ map slotBytes (r .slots)
@@ -124,7 +141,7 @@ module _ (r : Receiver) (f : RecordFits r) where
   pub is-record : isRecord (recordBytes r) ≡ true
   unfolding isRecord
   is-record =
-      sym (else (not (eqb (length (recordBytes r)) 249)) _ _ _ (ap not (eq-eqb _ _ length-record)) refl)
+      sym (else (not (eqb (length (recordBytes r)) recordLength)) _ _ _ (ap not (eq-eqb _ _ length-record)) refl)
       ∙ ap codesAll pieces-record
       ∙ codes-slots (r .slots)
 

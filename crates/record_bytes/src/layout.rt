@@ -1,38 +1,19 @@
 // The record as bytes of a fixed layout in a lent buffer: own address, idle limit, last reading, then the eight slots.
 ghost use mathlib.Core.Path.{_≡_};
-ghost use Prim.Native.Nat.{_+_, _≤_};
 ghost use lib.ListN.{length};
-ghost use lib.Seq.{paste};
-ghost use Rattle.record_bytes.specs.Layout.{headBytes, recordBytes, written, storedIn, piecesOf, slotsAt, codesAll, isRecord, recordAt};
-use super::slot::SLOT_BYTES;
-use super::slot::codes_ok;
-use super::slot::slot_at;
+ghost use Rattle.record_bytes.specs.Layout.{headBytes, written, storedIn};
+ghost use Rattle.record_bytes.specs.Places.{recordLength};
+use super::places::HEAD_BYTES;
+use super::places::RECORD_BYTES;
+use super::places::SLOT_BYTES;
 use super::slot::slot_bytes;
-use super::word::word_at;
-use frame::Address;
 use frame::octet::low_byte;
+use octets::copy;
 use receiver::Receiver;
 use slots::SLOTS;
 use slots::Slot;
-use slots::SlotState;
 
-pub const HEAD_BYTES: usize = 9;
-
-pub const RECORD_BYTES: usize = 249;
-
-// Copies the first n bytes of src into out from at on.
-pub fn copy(out: &mut [u8], at: usize, src: &[u8], n: usize)
-    requires { ⌜ (at + n ≤ length (now out)) × (n ≤ length (now src)) ⌝ }
-    ensures { λ _. ⌜ now (out .exit) ≡ paste (now (out .entry)) at (now (src .entry)) n ⌝ }
-{
-    let mut j: usize = 0;
-    while j < n {
-        out[at + j] = src[j];
-        j = j + 1;
-    }
-}
-
-pub fn head_bytes(r: Receiver) -> [u8; 9]
+fn head_bytes(r: Receiver) -> [u8; HEAD_BYTES]
     ensures { λ x. ⌜ x ≡ headBytes r ⌝ }
 {
     [
@@ -50,13 +31,13 @@ pub fn head_bytes(r: Receiver) -> [u8; 9]
 
 // The slots, behind the head.
 fn write_slots(slots: [Slot; 8], out: &mut [u8])
-    requires { ⌜ length (now out) ≡ 249 ⌝ }
+    requires { ⌜ length (now out) ≡ recordLength ⌝ }
     ensures { λ _. ⌜ now (out .exit) ≡ written slots (now (out .entry)) ⌝ }
 {
     let mut i: usize = 0;
     while i < SLOTS {
         let piece = slot_bytes(slots[i]);
-        copy(out, HEAD_BYTES + SLOT_BYTES * i, &piece, SLOT_BYTES);
+        copy(out, HEAD_BYTES + SLOT_BYTES * i, &piece, 0, SLOT_BYTES);
         i = i + 1;
     }
 }
@@ -70,61 +51,7 @@ pub fn write_record(r: Receiver, out: &mut [u8]) -> bool
     }
     let head = head_bytes(r);
     let slots = r.slots;
-    copy(out, 0, &head, HEAD_BYTES);
+    copy(out, 0, &head, 0, HEAD_BYTES);
     write_slots(slots, out);
     true
-}
-
-// Whether the codes of all eight slots are codes.
-fn codes_all(bytes: &[u8]) -> bool
-    requires { ⌜ length (now bytes) ≡ 249 ⌝ }
-    ensures { λ r. ⌜ r ≡ codesAll (piecesOf (now (bytes .entry))) ⌝ }
-{
-    let mut i: usize = 0;
-    while i < SLOTS {
-        let at = HEAD_BYTES + SLOT_BYTES * i;
-        if !codes_ok(bytes[at], bytes[at + 1]) {
-            return false;
-        }
-        i = i + 1;
-    }
-    true
-}
-
-pub fn is_record(bytes: &[u8]) -> bool
-    ensures { λ r. ⌜ r ≡ isRecord (now (bytes .entry)) ⌝ }
-{
-    if bytes.len() != RECORD_BYTES {
-        return false;
-    }
-    codes_all(bytes)
-}
-
-fn slots_at(bytes: &[u8]) -> [Slot; 8]
-    requires { ⌜ length (now bytes) ≡ 249 ⌝ }
-    ensures { λ r. ⌜ r ≡ slotsAt (now (bytes .entry)) ⌝ }
-{
-    let mut out = [Slot {
-        state: SlotState::Free,
-    }; 8];
-    let mut i: usize = 0;
-    while i < SLOTS {
-        let at = HEAD_BYTES + SLOT_BYTES * i;
-        let end = at + SLOT_BYTES;
-        out[i] = slot_at(&bytes[at..end]);
-        i = i + 1;
-    }
-    out
-}
-
-pub fn record_at(bytes: &[u8]) -> Receiver
-    requires { ⌜ length (now bytes) ≡ 249 ⌝ }
-    ensures { λ r. ⌜ r ≡ recordAt (now (bytes .entry)) ⌝ }
-{
-    Receiver {
-        own: Address(bytes[0]),
-        limit: word_at(bytes, 1),
-        last: word_at(bytes, 5),
-        slots: slots_at(bytes),
-    }
 }

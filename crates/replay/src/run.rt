@@ -2,14 +2,15 @@
 use super::input;
 use super::input::Got;
 use super::output;
-use receiver::Receiver;
-use receiver::answer::Answer;
-use report::answer::write_answer;
+use answer::place::bytes_of;
+use answer::place::cut;
+use answer::place::place_of;
+use engine::call;
+use engine::reading;
+use report::answer_lines::write_answer;
 use report::reading::write_reading;
 use report::run::write_bad_record;
 use report::run::write_end;
-use slots::place::Place;
-use slots::place::bytes_of;
 use text::Wrote;
 use trace::record;
 use trace::record::RecordRead;
@@ -19,7 +20,6 @@ const ROOM: usize = 20000;
 
 // Where a run stands.
 pub struct Run {
-    pub receiver: Receiver,
     // the records that were good
     pub records: u64,
     // the bytes of the input before the window
@@ -50,20 +50,6 @@ fn wrote(r: Run, w: Wrote) -> Run {
     }
 }
 
-// The bytes that an answer speaks of: a message's in the store.
-fn place_of(a: Answer) -> Place {
-    match a {
-        Answer::HandedOver(m) => {
-            let total = m.total;
-            Place::Message {
-                slot: m.slot,
-                total: total,
-            }
-        }
-        _ => Place::Group { start: 0, len: 0 },
-    }
-}
-
 // A record more, up to the place at.
 fn passed(r: Run, at: usize) -> Run {
     let mut next = r;
@@ -74,28 +60,26 @@ fn passed(r: Run, at: usize) -> Run {
     next
 }
 
-fn take_frame(r: Run, id: u32, frame: &[u8], store: &mut [u8], lines: &mut [u8]) -> Run {
-    let receiver = r.receiver;
-    let stepped = receiver.frame(id, frame, store);
-    let answer = stepped.answer;
+fn take_frame(
+    r: Run,
+    id: u32,
+    frame: &[u8],
+    receiver: &mut [u8],
+    store: &mut [u8],
+    lines: &mut [u8],
+) -> Run {
+    let answer = call::take_frame(receiver, id, frame, store);
     let bytes = bytes_of(place_of(answer), frame, store);
-    let w = write_answer(lines, r.put, id, frame, answer, bytes);
-    let mut next = r;
-    let receiver = stepped.next;
-    next.receiver = receiver;
-    wrote(next, w)
+    let w = write_answer(lines, r.put, frame, answer, bytes);
+    wrote(r, w)
 }
 
-fn take_reading(r: Run, t: u32, store: &[u8], lines: &mut [u8]) -> Run {
-    let receiver = r.receiver;
-    let elapsed = receiver.reading(t, store);
-    let answer = elapsed.answer;
-    let ends = elapsed.ends;
+fn take_reading(r: Run, t: u32, receiver: &mut [u8], store: &[u8], lines: &mut [u8]) -> Run {
+    let taken = reading::take_reading(receiver, t, store);
+    let answer = taken.answer;
+    let ends = taken.ends;
     let w = write_reading(lines, r.put, answer, ends);
-    let mut next = r;
-    let receiver = elapsed.next;
-    next.receiver = receiver;
-    wrote(next, w)
+    wrote(r, w)
 }
 
 fn bad_record(r: Run, lines: &mut [u8]) -> Run {
@@ -161,7 +145,13 @@ fn refill(r: Run, is_cut: bool, window: &mut [u8], lines: &mut [u8]) -> Run {
 }
 
 // One record, or more of the input.
-fn turn(before: Run, window: &mut [u8], store: &mut [u8], lines: &mut [u8]) -> Run {
+fn turn(
+    before: Run,
+    window: &mut [u8],
+    receiver: &mut [u8],
+    store: &mut [u8],
+    lines: &mut [u8],
+) -> Run {
     let r = with_room(before, lines);
     if !r.is_on {
         return r;
@@ -170,28 +160,34 @@ fn turn(before: Run, window: &mut [u8], store: &mut [u8], lines: &mut [u8]) -> R
         RecordRead::End => refill(r, false, window, lines),
         RecordRead::More => refill(r, true, window, lines),
         RecordRead::Bad(_) => bad_record(r, lines),
-        RecordRead::Reading { value, next } => take_reading(passed(r, next), value, store, lines),
+        RecordRead::Reading { value, next } => take_reading(
+            passed(r, next),
+            value,
+            receiver,
+            store,
+            lines,
+        ),
         RecordRead::Frame {
             identifier,
             start,
             len,
             next,
         } => {
-            let frame = bytes_of(Place::Group { start, len }, window, window);
-            take_frame(passed(r, next), identifier, frame, store, lines)
+            let frame = cut(window, start, len);
+            take_frame(passed(r, next), identifier, frame, receiver, store, lines)
         }
     }
 }
 
 // A loop has to end, and nothing says that the input does: it counts its turns down from a number that no run uses up.
-pub fn all(start: Run, window: &mut [u8], store: &mut [u8], lines: &mut [u8]) {
+pub fn all(start: Run, window: &mut [u8], receiver: &mut [u8], store: &mut [u8], lines: &mut [u8]) {
     let mut r = start;
     let mut turns = u64::MAX;
     while turns > 0 {
         if !r.is_on {
             break;
         }
-        r = turn(r, window, store, lines);
+        r = turn(r, window, receiver, store, lines);
         turns = turns - 1;
     }
     output::flush(lines, r.put);

@@ -2,8 +2,8 @@
 use mathlib.Core.Path.{_≡_, refl}
 use mathlib.Core.List.{List, [], _∷_, _++_}
 use Prim.Native.Nat.{ℕ}
-use Rattle.receiver.specs.declared.answer.SlotEnd.{SlotEnd}
-use Rattle.receiver.specs.declared.answer.End.the-variants as end
+use Rattle.answer.specs.declared.SlotEnd.{SlotEnd}
+use Rattle.answer.specs.declared.End.the-variants as end
 use Rattle.report.specs.Lines.{endLines, endsLines}
 
 abbrev pub slotLines : SlotEnd → List ℕ

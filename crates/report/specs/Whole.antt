@@ -4,16 +4,17 @@ use mathlib.Core.Path.{_≡_, refl}
 use mathlib.Core.List.{List, [], _∷_}
 use lib.ListN.{replicate}
 use Rattle.frame.specs.declared.refusal.Refusal.the-variants.{OutOfSequence, Silence, OutOfBounds, AnnouncementForm, FrameLength}
+use Rattle.frame.specs.declared.judge.Route.{Route}
 use Rattle.multi_pg.specs.Groups.{reading, readFrom}
 use Rattle.transport.specs.declared.Key.{Key}
 use Rattle.transport.specs.declared.Kind.{Kind}
 use Rattle.transport.specs.declared.Kind.the-variants.{Rts, Bam}
-use Rattle.receiver.specs.declared.answer.Message.{Message}
-use Rattle.receiver.specs.declared.answer.Answer.{Answer}
-use Rattle.receiver.specs.declared.answer.Answer.the-variants.{Groups, Opened, Taken, Grant, HandedOver, Aborted, Ended, RefusedRts, Refused}
-use Rattle.receiver.specs.declared.answer.SlotEnd.{SlotEnd}
-use Rattle.receiver.specs.declared.answer.End.the-variants as end
-use Rattle.receiver.specs.declared.answer.Kept.the-variants as kept
+use Rattle.answer.specs.declared.Message.{Message}
+use Rattle.answer.specs.declared.Answer.{Answer}
+use Rattle.answer.specs.declared.Answer.the-variants.{Groups, Opened, Taken, Grant, HandedOver, Aborted, Ended, RefusedRts, Refused}
+use Rattle.answer.specs.declared.SlotEnd.{SlotEnd}
+use Rattle.answer.specs.declared.End.the-variants as end
+use Rattle.answer.specs.declared.Acceptance.the-variants as acceptance
 use Rattle.text.specs.Ascii.{ascii}
 use Rattle.text.specs.Decimal.{decimal, digitsOf, widthOf, widthFrom}
 use Rattle.text.specs.Line.{lineOf, numbers, spaced}
@@ -22,9 +23,12 @@ use Rattle.report.specs.Lines.{answerLines, groupLines, readingLines, en
 abbrev key : Key
 key = record { sa = record { 0 = 128 }; da = record { 0 = 33 }; session = record { 0 = 3 } }
 
+abbrev route : Route
+route = record { sa = record { 0 = 128 }; da = record { 0 = 33 } }
+
 -- the answer to a control or data frame, whose bytes show only in a message
 abbrev printed : Answer → List ℕ → List ℕ
-printed a bytes = answerLines 0x1C4D2180 [] a bytes
+printed a bytes = answerLines [] a bytes
 
 abbrev stays : SlotEnd
 stays = record { end = end.Stays }
@@ -37,8 +41,8 @@ message k =
     record { key = key; kind = k; total = record { 0 = 3 }; segments = record { 0 = 1 }; pgn = 65226; slot = 0 }
 
 pub record WholeCase : Type 0 where
-  pub a : readingLines kept.Kept (replicate 8 stays) ≡ []
-  pub b : answerLines 0x18252180 (0x40 ∷ 0xEA ∷ 0x00 ∷ 0x03 ∷ 0xCA ∷ 0xFE ∷ 0x00 ∷ []) Groups [] ≡ ascii "pg 128 33 59904 3\n"
+  pub a : readingLines acceptance.Accepted (replicate 8 stays) ≡ []
+  pub b : answerLines (0x40 ∷ 0xEA ∷ 0x00 ∷ 0x03 ∷ 0xCA ∷ 0xFE ∷ 0x00 ∷ []) (Groups route) [] ≡ ascii "pg 128 33 59904 3\n"
   pub c : printed (Grant (record { key = key; next = record { 0 = 1 }; count = 2; pgn = 65226 })) [] ≡ ascii "send cts 128 3 1 2\n"
   pub d : printed (Ended (record { key = key; kind = Rts; refusal = OutOfSequence; pgn = 65226 })) [] ≡ ascii "send abort 128 3 19\n"
   pub last : endLine 4 ≡ ascii "end 4\n"
@@ -56,8 +60,8 @@ pub record OtherLines : Type 0 where
   pub ended-bam : printed (Ended (record { key = key; kind = Bam; refusal = OutOfSequence; pgn = 65226 })) [] ≡ ascii "ended 128 3 19\n"
   pub rejected : printed (RefusedRts (record { key = key; refusal = AnnouncementForm; pgn = 65226 })) [] ≡ ascii "send abort 128 3 11\n"
   pub refused : printed (Refused FrameLength) [] ≡ ascii "refused 1\n"
-  pub silence : readingLines kept.Kept (stays ∷ silent Rts ∷ silent Bam ∷ replicate 5 stays) ≡ ascii "send abort 128 3 22\nended 128 3 22\n"
-  pub out-of-bounds : readingLines (kept.Refused OutOfBounds) (replicate 8 stays) ≡ ascii "refused 23\n"
+  pub silence : readingLines acceptance.Accepted (stays ∷ silent Rts ∷ silent Bam ∷ replicate 5 stays) ≡ ascii "send abort 128 3 22\nended 128 3 22\n"
+  pub out-of-bounds : readingLines (acceptance.Refused OutOfBounds) (replicate 8 stays) ≡ ascii "refused 23\n"
   pub bad : badLine 1000 ≡ ascii "bad record at 1000\n"
 
 pub other-lines : OtherLines

@@ -6,10 +6,10 @@ ghost use Rattle.report.specs.Lines.{endLines, endsLines, readingLines};
 ghost use Rattle.session_lines.specs.Lines.{endingLine};
 ghost use Rattle.text.specs.Line.{leftBy, Placed};
 ghost use Rattle.text.specs.Put.{PutAt};
-use receiver::answer::End;
-use receiver::answer::Ending;
-use receiver::answer::Kept;
-use receiver::answer::SlotEnd;
+use answer::Acceptance;
+use answer::End;
+use answer::Ending;
+use answer::SlotEnd;
 use session_lines::ending::ending_numbers;
 use session_lines::ending::write_refused;
 use text::Left;
@@ -112,11 +112,11 @@ fn write_ends(out: &mut [u8], at: usize, ends: [SlotEnd; 8]) -> Wrote
 }
 
 // The lines of a reading, by what it answers and the ending of each slot.
-pub fn write_reading(out: &mut [u8], at: usize, answer: Kept, ends: [SlotEnd; 8]) -> Wrote
+pub fn write_reading(out: &mut [u8], at: usize, answer: Acceptance, ends: [SlotEnd; 8]) -> Wrote
     ensures { λ r. ⌜ Placed (now (out .entry)) at (readingLines answer ends) r (now (out .exit)) ⌝ }
 {
     match answer {
-        Kept::Kept => write_ends(out, at, ends),
-        Kept::Refused(refusal) => write_refused(out, at, refusal),
+        Acceptance::Accepted => write_ends(out, at, ends),
+        Acceptance::Refused(refusal) => write_refused(out, at, refusal),
     }
 }

@@ -1,8 +1,11 @@
 -- An announcement judged, and the session that it opens: 01, "Announcement".
-use Prim.Native.Nat.{ℕ, _+_, _-_, _/_, min}
-use mathlib.Core.Bool.{Bool, true, false, cond, not, _&&_, _||_}
+use Prim.Native.Nat.{ℕ, _+_, _/_}
+use mathlib.Core.Bool.{Bool, cond, not, _&&_, _||_}
 use lib.Dec.{eqb, ltb}
 use Rattle.frame.specs.Pgn.{pgnOk}
+use Rattle.transport.specs.Kinds.{isRts}
+use Rattle.progress.specs.declared.Announced.{Announced}
+use Rattle.progress.specs.Forward.{grantOf}
 use Rattle.frame.specs.declared.Address.{Address}
 use Rattle.frame.specs.declared.refusal.Refusal.{Refusal}
 use Rattle.frame.specs.declared.refusal.Refusal.the-variants.{PgnForm, AnnouncementForm, TooLong, Assurance}
@@ -14,10 +17,6 @@ use Rattle.transport.specs.declared.response.Cts.{Cts}
 use Rattle.session.specs.declared.Session.{Session}
 use Rattle.session.specs.declared.announcement.Form.{Form}
 use Rattle.session.specs.declared.announcement.Form.the-variants.{Good, Bad}
-
-abbrev pub isRts : Kind → Bool
-isRts Rts = true
-isRts Bam = false
 
 -- RTS to 255, or BAM to the own address; a frame that is taken has no other DA
 abbrev pub misdirected : Address → Kind → Bool
@@ -40,26 +39,21 @@ formOf a =
     (cond (not (pgnOk (a .pgn))) (Bad PgnForm)
     Good)))
 
--- the smallest of MAX SGMTS, 16 and the segments left
-unfoldable pub grantOf : ℕ → ℕ → ℕ
-grantOf max left = min (min max 16) left
-
 -- the last segment of the first grant; a BAM has none
 abbrev pub firstGranted : Announcement → ℕ
 firstGranted a = cond (isRts (a .kind)) (grantOf (a .max) (a .segments .0)) 0
 
+-- of an announcement the assurance type is not kept: there is none
+abbrev pub announcedBy : Key → Announcement → Announced
+announcedBy k a =
+    record { key = k; kind = a .kind; total = a .total; segments = a .segments; max = a .max; pgn = a .pgn }
+
+-- none taken, and marked with the last reading
 abbrev pub sessionOf : Key → Announcement → ℕ → Session
 sessionOf k a last =
     record {
-      key = k;
-      kind = a .kind;
-      total = a .total;
-      segments = a .segments;
-      max = a .max;
-      pgn = a .pgn;
-      next = record { 0 = 1 };
-      granted = record { 0 = firstGranted a };
-      mark = last;
+      announced = announcedBy k a;
+      progress = record { next = record { 0 = 1 }; granted = record { 0 = firstGranted a }; mark = last };
     }
 
 -- the CTS that answers an RTS: from segment 1

@@ -1,31 +1,51 @@
--- When an open session is in bounds, apart from its key: 01, "Numbered refusals".
+-- When an open session is in bounds: 01, "Numbered refusals".
 use Prim.Native.Nat.{ℕ, _+_, _/_, _≤_}
 use mathlib.Core.Path.{_≡_}
 use mathlib.Core.Logic.{_⊎_}
-use mathlib.Core.Bool.{Bool, true, not, _&&_, _||_}
+use mathlib.Core.Bool.{Bool, true, cond, not, _&&_, _||_}
 use lib.Dec.{eqb, leb}
+use Rattle.frame.specs.declared.Address.{Address}
 use Rattle.frame.specs.Pgn.{pgnOk}
 use Rattle.transport.specs.declared.Kind.{Kind}
+use Rattle.transport.specs.Kinds.{isRts}
+use Rattle.progress.specs.declared.Announced.{Announced}
+use Rattle.progress.specs.declared.Progress.{Progress}
 use Rattle.session.specs.declared.Session.{Session}
-use Rattle.session.specs.Announcements.{isRts}
+use Rattle.session.specs.declared.State.{State}
+use Rattle.session.specs.declared.State.the-variants.{Closed, Open}
 
 -- Total Bytes, segment count and PGN as an announcement allows, MAX SGMTS at least 1 for RTS
-abbrev pub announcedOk : Session → Bool
-announcedOk s =
-    leb 1 (s .total .0)
-    && leb (s .total .0) 4096
-    && eqb (s .segments .0) ((s .total .0 + 59) / 60)
-    && pgnOk (s .pgn)
-    && (not (isRts (s .kind)) || leb 1 (s .max))
+abbrev pub announcedOk : Announced → Bool
+announcedOk a =
+    leb 1 (a .total .0)
+    && leb (a .total .0) 4096
+    && eqb (a .segments .0) ((a .total .0 + 59) / 60)
+    && pgnOk (a .pgn)
+    && (not (isRts (a .kind)) || leb 1 (a .max))
+
+-- SA and DA as they are taken here, with the DA of the kind, and a session number to 15
+abbrev pub keyOk : Address → Announced → Bool
+keyOk own a =
+    leb (a .key .sa .0) 253
+    && not (eqb (a .key .sa .0) (own .0))
+    && eqb (a .key .da .0) (cond (isRts (a .kind)) (own .0) 255)
+    && leb (a .key .session .0) 15
 
 -- next segment from 1 to segments + 1; for RTS the last granted from the next segment to the count, or the count when all are in
-abbrev pub progressOk : Session → Bool
-progressOk s =
-    leb 1 (s .next .0)
-    && leb (s .next .0) (s .segments .0 + 1)
-    && (not (isRts (s .kind))
-    || (leb (s .next .0) (s .granted .0) && leb (s .granted .0) (s .segments .0))
-    || (eqb (s .next .0) (s .segments .0 + 1) && eqb (s .granted .0) (s .segments .0)))
+abbrev pub progressOk : Announced → Progress → Bool
+progressOk a p =
+    leb 1 (p .next .0)
+    && leb (p .next .0) (a .segments .0 + 1)
+    && (not (isRts (a .kind))
+    || (leb (p .next .0) (p .granted .0) && leb (p .granted .0) (a .segments .0))
+    || (eqb (p .next .0) (a .segments .0 + 1) && eqb (p .granted .0) (a .segments .0)))
+
+abbrev pub sessionOk : Address → Session → Bool
+sessionOk own s = announcedOk (s .announced) && keyOk own (s .announced) && progressOk (s .announced) (s .progress)
+
+abbrev pub stateOk : Address → State → Bool
+stateOk own Closed = true
+stateOk own (Open s) = sessionOk own s
 
 -- the same as facts
 
@@ -36,14 +56,14 @@ pub record Agreed (kind : Kind) (total segments max pgn : ℕ) : Type 0 where
   pub form : pgnOk pgn ≡ true
   pub grants : isRts kind ≡ true → 1 ≤ max
 
-abbrev pub AgreedIn : Session → Type 0
-AgreedIn s = Agreed (s .kind) (s .total .0) (s .segments .0) (s .max) (s .pgn)
+abbrev pub AgreedIn : Announced → Type 0
+AgreedIn a = Agreed (a .kind) (a .total .0) (a .segments .0) (a .max) (a .pgn)
 
 abbrev pub Ahead : ℕ → ℕ → ℕ → Type 0
 Ahead next granted segments =
     ((next ≤ granted) × (granted ≤ segments)) ⊎ ((next ≡ segments + 1) × (granted ≡ segments))
 
-pub record Progress (s : Session) : Type 0 where
-  pub low : 1 ≤ s .next .0
-  pub high : s .next .0 ≤ s .segments .0 + 1
-  pub ahead : isRts (s .kind) ≡ true → Ahead (s .next .0) (s .granted .0) (s .segments .0)
+pub record Reached (a : Announced) (p : Progress) : Type 0 where
+  pub low : 1 ≤ p .next .0
+  pub high : p .next .0 ≤ a .segments .0 + 1
+  pub ahead : isRts (a .kind) ≡ true → Ahead (p .next .0) (p .granted .0) (a .segments .0)

@@ -8,11 +8,11 @@ use Rattle.session.specs.declared.Session.{Session}
 -- every segment is in, and totals, PGN and assurance type (none) are as announced
 abbrev pub statusMatches : Session → Status → Bool
 statusMatches s st =
-    eqb (s .next .0) (s .segments .0 + 1)
-    && eqb (st .total .0) (s .total .0)
-    && eqb (st .segments .0) (s .segments .0)
+    eqb (s .progress .next .0) (s .announced .segments .0 + 1)
+    && eqb (st .total .0) (s .announced .total .0)
+    && eqb (st .segments .0) (s .announced .segments .0)
     && eqb (st .assurance) 0
-    && eqb (st .pgn) (s .pgn)
+    && eqb (st .pgn) (s .announced .pgn)
 
 -- the milliseconds from mark to reading, on a 32-bit clock that runs round
 unfoldable pub elapsed : ℕ → ℕ → ℕ

@@ -19,9 +19,13 @@ use Rattle.session.specs.declared.announcement.Form.{Form}
 use Rattle.session.specs.declared.announcement.Form.the-variants.{Good, Bad}
 use Rattle.session.specs.declared.segment.Judged.{Judged}
 use Rattle.session.specs.declared.segment.Judged.the-variants.{Refused, Ends, Takes}
-use Rattle.session.specs.Announcements.{isRts, badNumbers, formOf, grantOf, sessionOf}
-use Rattle.session.specs.Segments.{dueOf, judgedOf, ctsDue, advancedBy}
-use Rattle.session.specs.Bounds.{announcedOk, progressOk, Agreed, AgreedIn, Ahead, Progress}
+use Rattle.transport.specs.Kinds.{isRts}
+use Rattle.progress.specs.declared.Announced.{Announced}
+use Rattle.progress.specs.declared.Progress.{Progress}
+use Rattle.progress.specs.Forward.{grantOf, advancedBy}
+use Rattle.session.specs.Announcements.{badNumbers, formOf, announcedBy, sessionOf}
+use Rattle.session.specs.Segments.{dueOf, judgedOf}
+use Rattle.session.specs.Bounds.{announcedOk, progressOk, Agreed, AgreedIn, Ahead, Reached}
 
 -- ---- tests
 
@@ -126,19 +130,19 @@ form-agreed a e =
 
 -- ---- bounds as tests and as facts
 
-announced-tests : Session → List Bool
-announced-tests s =
-    leb 1 (s .total .0)
-    ∷ leb (s .total .0) 4096
-    ∷ eqb (s .segments .0) ((s .total .0 + 59) / 60)
-    ∷ pgnOk (s .pgn)
-    ∷ (not (isRts (s .kind)) || leb 1 (s .max))
+announced-tests : Announced → List Bool
+announced-tests a =
+    leb 1 (a .total .0)
+    ∷ leb (a .total .0) 4096
+    ∷ eqb (a .segments .0) ((a .total .0 + 59) / 60)
+    ∷ pgnOk (a .pgn)
+    ∷ (not (isRts (a .kind)) || leb 1 (a .max))
     ∷ []
 
-pub announced-agreed : (s : Session) → announcedOk s ≡ true → AgreedIn s
+pub announced-agreed : (a : Announced) → announcedOk a ≡ true → AgreedIn a
 unfolding announced-tests
-announced-agreed s e =
-    let t = each-of (announced-tests s) e in
+announced-agreed a e =
+    let t = each-of (announced-tests a) e in
     record {
       some = leb-true _ _ (t .0);
       fits = leb-true _ _ (t .1 .0);
@@ -147,34 +151,34 @@ announced-agreed s e =
       grants = λ r. leb-true _ _ (implied _ _ (t .1 .1 .1 .1 .0) r);
     }
 
-pub agreed-announced : (s : Session) → AgreedIn s → announcedOk s ≡ true
+pub agreed-announced : (a : Announced) → AgreedIn a → announcedOk a ≡ true
 unfolding announced-tests
-agreed-announced s a =
-    all-of (announced-tests s) (
-      le-leb _ _ (a .some),
+agreed-announced a h =
+    all-of (announced-tests a) (
+      le-leb _ _ (h .some),
       (
-        le-leb _ _ (a .fits),
-        (eq-eqb _ _ (a .count), (a .form, (implies _ _ (λ r. le-leb _ _ (a .grants r)), tt))),
+        le-leb _ _ (h .fits),
+        (eq-eqb _ _ (h .count), (h .form, (implies _ _ (λ r. le-leb _ _ (h .grants r)), tt))),
       ),
     )
 
-module _ (s : Session) where
+module _ (a : Announced) (p : Progress) where
   rts : Bool
-  rts = isRts (s .kind)
+  rts = isRts (a .kind)
 
   waits : Bool
-  waits = leb (s .next .0) (s .granted .0) && leb (s .granted .0) (s .segments .0)
+  waits = leb (p .next .0) (p .granted .0) && leb (p .granted .0) (a .segments .0)
 
   over : Bool
-  over = eqb (s .next .0) (s .segments .0 + 1) && eqb (s .granted .0) (s .segments .0)
+  over = eqb (p .next .0) (a .segments .0 + 1) && eqb (p .granted .0) (a .segments .0)
 
   progress-tests : List Bool
   progress-tests =
-      leb 1 (s .next .0) ∷ leb (s .next .0) (s .segments .0 + 1) ∷ (not rts || waits || over) ∷ []
+      leb 1 (p .next .0) ∷ leb (p .next .0) (a .segments .0 + 1) ∷ (not rts || waits || over) ∷ []
 
-  pub progress-facts : progressOk s ≡ true → Progress s
+  pub progress-reached : progressOk a p ≡ true → Reached a p
   unfolding rts waits over progress-tests
-  progress-facts e =
+  progress-reached e =
       let t = each-of progress-tests e in
       record {
         low = leb-true _ _ (t .0);
@@ -182,34 +186,34 @@ module _ (s : Session) where
         ahead = λ r. by (one-of waits over (implied rts (waits || over) (sym (or-assoc (not rts) waits over) ∙ t .1 .1 .0) r));
       }
     where
-      by : (waits ≡ true) ⊎ (over ≡ true) → Ahead (s .next .0) (s .granted .0) (s .segments .0)
-      by (inl w) = let b = each-of (leb (s .next .0) (s .granted .0) ∷ leb (s .granted .0) (s .segments .0) ∷ []) w in inl (leb-true _ _ (b .0), leb-true _ _ (b .1 .0))
-      by (inr w) = let b = each-of (eqb (s .next .0) (s .segments .0 + 1) ∷ eqb (s .granted .0) (s .segments .0) ∷ []) w in inr (eqb-true _ _ (b .0), eqb-true _ _ (b .1 .0))
+      by : (waits ≡ true) ⊎ (over ≡ true) → Ahead (p .next .0) (p .granted .0) (a .segments .0)
+      by (inl w) = let b = each-of (leb (p .next .0) (p .granted .0) ∷ leb (p .granted .0) (a .segments .0) ∷ []) w in inl (leb-true _ _ (b .0), leb-true _ _ (b .1 .0))
+      by (inr w) = let b = each-of (eqb (p .next .0) (a .segments .0 + 1) ∷ eqb (p .granted .0) (a .segments .0) ∷ []) w in inr (eqb-true _ _ (b .0), eqb-true _ _ (b .1 .0))
 
-  pub facts-progress : Progress s → progressOk s ≡ true
+  pub reached-progress : Reached a p → progressOk a p ≡ true
   unfolding rts waits over progress-tests
-  facts-progress p =
+  reached-progress h =
       all-of progress-tests (
-        le-leb _ _ (p .low),
+        le-leb _ _ (h .low),
         (
-          le-leb _ _ (p .high),
-          (or-assoc (not rts) waits over ∙ implies rts (waits || over) (λ r. by (p .ahead r)), tt),
+          le-leb _ _ (h .high),
+          (or-assoc (not rts) waits over ∙ implies rts (waits || over) (λ r. by (h .ahead r)), tt),
         ),
       )
     where
-      by : Ahead (s .next .0) (s .granted .0) (s .segments .0) → (waits || over) ≡ true
+      by : Ahead (p .next .0) (p .granted .0) (a .segments .0) → (waits || over) ≡ true
       by (inl w) =
-          sym (or-stop waits over (all-of (leb (s .next .0) (s .granted .0) ∷ leb (s .granted .0) (s .segments .0) ∷ []) (le-leb _ _ (w .0), (le-leb _ _ (w .1), tt))))
+          sym (or-stop waits over (all-of (leb (p .next .0) (p .granted .0) ∷ leb (p .granted .0) (a .segments .0) ∷ []) (le-leb _ _ (w .0), (le-leb _ _ (w .1), tt))))
       by (inr w) =
-          or-right-true waits over (all-of (eqb (s .next .0) (s .segments .0 + 1) ∷ eqb (s .granted .0) (s .segments .0) ∷ []) (eq-eqb _ _ (w .0), (eq-eqb _ _ (w .1), tt)))
+          or-right-true waits over (all-of (eqb (p .next .0) (a .segments .0 + 1) ∷ eqb (p .granted .0) (a .segments .0) ∷ []) (eq-eqb _ _ (w .0), (eq-eqb _ _ (w .1), tt)))
 
 -- ---- a session is in bounds when it opens
 
-pub opened-agreed : (k : Key) (a : Announcement) (last : ℕ) → formOf a ≡ Good → AgreedIn (sessionOf k a last)
-opened-agreed k a last e = form-agreed a e .0
+pub opened-agreed : (k : Key) (a : Announcement) → formOf a ≡ Good → AgreedIn (announcedBy k a)
+opened-agreed k a e = form-agreed a e .0
 
-pub opened-progress : (k : Key) (a : Announcement) (last : ℕ) → formOf a ≡ Good → Progress (sessionOf k a last)
-opened-progress k a last e =
+pub opened-reached : (k : Key) (a : Announcement) (last : ℕ) → formOf a ≡ Good → Reached (announcedBy k a) (sessionOf k a last .progress)
+opened-reached k a last e =
     let f = form-agreed a e .0 in
     let some : 1 ≤ a .segments .0 = omega arith in
     record { low = omega arith; high = omega arith; ahead = λ r. by (isRts (a .kind)) r some (f .grants r) }
@@ -222,10 +226,10 @@ opened-progress k a last e =
 -- ---- a segment that is taken
 
 pub record InTurn (s : Session) (n room : ℕ) : Type 0 where
-  pub next : n ≡ s .next .0
+  pub next : n ≡ s .progress .next .0
   pub low : 1 ≤ n
-  pub high : n ≤ s .segments .0
-  pub enough : dueOf (s .total .0) n ≤ room
+  pub high : n ≤ s .announced .segments .0
+  pub enough : dueOf (s .announced .total .0) n ≤ room
 
 refused≢takes : (x : Refusal) → Refused x ≡ Takes → ⊥
 refused≢takes x e = let z : _≡_ {A = ℕ} 0 1 = cc in omega arith
@@ -236,32 +240,31 @@ ends≢takes x e = let z : _≡_ {A = ℕ} 0 1 = cc in omega arith
 pub takes-in-turn : (s : Session) (n room : ℕ) → judgedOf s n room ≡ Takes → InTurn s n room
 unfolding judgedOf
 takes-in-turn s n room e =
-    let p₁ = passed (eqb n 0 || ltb n (s .next .0)) _ _ _ (refused≢takes _) e in
-    let p₂ = passed (ltb (s .next .0) n || ltb (s .segments .0) n) _ _ _ (ends≢takes _) (p₁ .1) in
-    let p₃ = passed (ltb room (dueOf (s .total .0) n)) _ _ _ (refused≢takes _) (p₂ .1) in
+    let next : ℕ = s .progress .next .0 in
+    let p₁ = passed (eqb n 0 || ltb n next) _ _ _ (refused≢takes _) e in
+    let p₂ = passed (ltb next n || ltb (s .announced .segments .0) n) _ _ _ (ends≢takes _) (p₁ .1) in
+    let p₃ = passed (ltb room (dueOf (s .announced .total .0) n)) _ _ _ (refused≢takes _) (p₂ .1) in
     let not-zero : n ≡ 0 → ⊥ = eqb-false _ _ (or-false-left _ _ (p₁ .0)) in
-    let not-below : s .next .0 ≤ n = ltb-false _ _ (or-false-right (eqb n 0) _ (p₁ .0)) in
-    let not-above : n ≤ s .next .0 = ltb-false _ _ (or-false-left _ _ (p₂ .0)) in
+    let not-below : s .progress .next .0 ≤ n = ltb-false _ _ (or-false-right (eqb n 0) _ (p₁ .0)) in
+    let not-above : n ≤ s .progress .next .0 = ltb-false _ _ (or-false-left _ _ (p₂ .0)) in
     record {
       next = omega arith;
       low = omega arith;
-      high = ltb-false _ _ (or-false-right (ltb (s .next .0) n) _ (p₂ .0));
+      high = ltb-false _ _ (or-false-right (ltb next n) _ (p₂ .0));
       enough = ltb-false _ _ (p₃ .0);
     }
 
 -- ---- a session stays in bounds as segments are taken
 
-pub advanced-agreed : (s : Session) (n last : ℕ) → AgreedIn s → AgreedIn (advancedBy s n last)
-advanced-agreed s n last a = a
-
-pub advanced-progress : (s : Session) (n room last : ℕ) → AgreedIn s → Progress s → judgedOf s n room ≡ Takes → Progress (advancedBy s n last)
-advanced-progress s n room last a p e =
+pub advanced-reached : (s : Session) (n room last : ℕ) → AgreedIn (s .announced) → Reached (s .announced) (s .progress) → judgedOf s n room ≡ Takes
+    → Reached (s .announced) (advancedBy (s .progress) (s .announced) n last)
+advanced-reached s n room last a p e =
     let t = takes-in-turn s n room e in
-    record { low = omega arith; high = omega arith; ahead = λ r. by (isRts (s .kind)) r t (p .ahead r) (a .grants r) }
+    record { low = omega arith; high = omega arith; ahead = λ r. by (isRts (s .announced .kind)) r t (p .ahead r) (a .grants r) }
   where
-    by : (rts : Bool) → rts ≡ true → InTurn s n room → Ahead (s .next .0) (s .granted .0) (s .segments .0) → 1 ≤ s .max
-        → Ahead (n + 1) (cond (rts && eqb n (s .granted .0) && ltb n (s .segments .0)) (n + grantOf (s .max) (s .segments .0 - n)) (s .granted .0)) (s .segments .0)
-    by true r t (inl w) m = grant-next n (s .granted .0) (s .segments .0) (s .max) m (t .high) (omega arith) (w .1)
+    by : (rts : Bool) → rts ≡ true → InTurn s n room → Ahead (s .progress .next .0) (s .progress .granted .0) (s .announced .segments .0) → 1 ≤ s .announced .max
+        → Ahead (n + 1) (cond (rts && eqb n (s .progress .granted .0) && ltb n (s .announced .segments .0)) (n + grantOf (s .announced .max) (s .announced .segments .0 - n)) (s .progress .granted .0)) (s .announced .segments .0)
+    by true r t (inl w) m = grant-next n (s .progress .granted .0) (s .announced .segments .0) (s .announced .max) m (t .high) (omega arith) (w .1)
     by true r t (inr w) m = absurd (omega arith)
     by false r t w m = absurd (false≢true r)
 
@@ -291,7 +294,7 @@ unfolding dueOf
 due-most total n = omega arith
 
 -- the data of a segment that is taken lies in the message, and so in a slot
-pub taken-inside : (s : Session) (n room : ℕ) → AgreedIn s → judgedOf s n room ≡ Takes → 60 * (n - 1) + dueOf (s .total .0) n ≤ s .total .0
+pub taken-inside : (s : Session) (n room : ℕ) → AgreedIn (s .announced) → judgedOf s n room ≡ Takes → 60 * (n - 1) + dueOf (s .announced .total .0) n ≤ s .announced .total .0
 taken-inside s n room a e =
     let t = takes-in-turn s n room e in
-    segment-inside (s .total .0) n (t .low) (omega arith)
+    segment-inside (s .announced .total .0) n (t .low) (omega arith)

@@ -2,5 +2,10 @@ pub mod Announcements
 pub mod Segments
 pub mod Ends
 pub mod Bounds
+pub mod Decisions
 pub mod Laws
+pub mod Steps
 pub mod Table
+pub mod InBounds
+pub mod Effects
+pub mod Fits

@@ -9,10 +9,15 @@ use Rattle.transport.specs.declared.Kind.the-variants.{Rts}
 use Rattle.transport.specs.declared.control.Announcement.{Announcement}
 use Rattle.session.specs.declared.Session.{Session}
 use Rattle.session.specs.declared.announcement.Form.the-variants.{Good, Bad}
-use Rattle.session.specs.declared.segment.Step.{Step}
-use Rattle.session.specs.declared.segment.Step.the-variants as step
-use Rattle.session.specs.Announcements.{formOf, grantOf, sessionOf, firstCts}
-use Rattle.session.specs.Segments.{dueOf, judgedOf, stepOf}
+use Rattle.session.specs.declared.Change.{Change}
+use Rattle.session.specs.declared.Change.the-variants.{Stays, Opens, Moves, Ends}
+use Rattle.session.specs.declared.Step.{Step}
+use Rattle.answer.specs.declared.Answer.{Answer}
+use Rattle.answer.specs.declared.Answer.the-variants as answer
+use Rattle.progress.specs.Forward.{grantOf}
+use Rattle.session.specs.Announcements.{formOf, sessionOf, firstCts}
+use Rattle.session.specs.Segments.{dueOf, judgedOf}
+use Rattle.session.specs.Decisions.{segmentOpen}
 use Rattle.session.specs.Ends.{elapsed, isIdle}
 
 -- an RTS of PGN 65226 with MAX SGMTS 255 and no assurance data
@@ -40,22 +45,35 @@ unfolding formOf
 P9 = refl
 
 -- the counts of the CTS that are sent while the next segments come, each in a frame of 64 bytes
-abbrev onward : Step → (Session → List ℕ) → List ℕ
-onward (step.Refused x) f = []
-onward (step.Ends x) f = []
-onward (step.Taken s) f = f s
-onward (step.Grant s c) f = c .count ∷ f s
+abbrev counted : Answer → List ℕ → List ℕ
+counted (answer.Grant c) l = c .count ∷ l
+counted (answer.Groups route) l = l
+counted (answer.Opened k) l = l
+counted (answer.Taken t) l = l
+counted (answer.HandedOver m) l = l
+counted (answer.Aborted k) l = l
+counted (answer.Ended e) l = l
+counted (answer.RefusedRts j) l = l
+counted (answer.Refused n) l = l
+
+abbrev onward : Change → Session → (Session → List ℕ) → List ℕ
+onward (Moves p) s f = f (record { announced = s .announced; progress = p })
+onward Stays s f = []
+onward (Opens t) s f = []
+onward Ends s f = []
 
 unfoldable pub counts : ℕ → Session → List ℕ
 counts zero s = []
-counts (suc k) s = onward (stepOf s (s .next .0) 60 0) (counts k)
+counts (suc k) s =
+    let st : Step = segmentOpen s (s .progress .next .0) 60 0 in
+    counted (st .answer) (onward (st .change) s (counts k))
 
 pub P10-form : formOf (rtsOf 4096 69) ≡ Good
 unfolding formOf
 P10-form = refl
 
 pub P10 : (k : Key) → firstCts k (rtsOf 4096 69) .count ∷ counts 69 (sessionOf k (rtsOf 4096 69) 0) ≡ 16 ∷ 16 ∷ 16 ∷ 16 ∷ 5 ∷ []
-unfolding counts stepOf judgedOf dueOf grantOf
+unfolding counts judgedOf dueOf grantOf
 P10 k = refl
 
 pub P11 : formOf (rtsOf 4097 69) ≡ Bad TooLong

@@ -1,16 +1,25 @@
 // An announcement judged, and the session that it opens (01, "Announcement").
 ghost use mathlib.Core.Path.{_≡_};
-ghost use Rattle.session.specs.Announcements.{isRts, misdirected, badNumbers, formOf, firstGranted, sessionOf, firstCts};
+ghost use Rattle.session.specs.Announcements.{misdirected, badNumbers, formOf, firstGranted, sessionOf, firstCts};
+ghost use Rattle.session.specs.Decisions.{rejection, opening, forKey, announcedTo};
+use super::Change;
 use super::Session;
-use super::grant::grant;
+use super::State;
+use super::Step;
+use answer::Answer;
+use answer::Rejection;
 use frame::Address;
 use frame::SegmentNumber;
 use frame::octet::wide;
 use frame::pgn;
 use frame::refusal::Refusal;
+use progress::Announced;
+use progress::Progress;
+use progress::grant::grant;
 use transport::Key;
 use transport::Kind;
 use transport::control::Announcement;
+use transport::is_rts;
 use transport::response::Cts;
 
 // The numbers of an announcement, judged.
@@ -19,17 +28,8 @@ pub enum Form {
     Bad(Refusal),
 }
 
-pub fn is_rts(kind: Kind) -> bool
-    ensures { λ r. ⌜ r ≡ isRts kind ⌝ }
-{
-    match kind {
-        Kind::Rts => true,
-        Kind::Bam => false,
-    }
-}
-
 // Whether an announcement goes to a destination that its kind has not: 11, and nothing is sent.
-pub fn is_misdirected(da: Address, kind: Kind) -> bool
+fn is_misdirected(da: Address, kind: Kind) -> bool
     ensures { λ r. ⌜ r ≡ misdirected da kind ⌝ }
 {
     match kind {
@@ -79,7 +79,7 @@ fn first_granted(a: Announcement) -> u32
 }
 
 // The session that an announcement opens, marked with the last reading.
-pub fn open_session(key: Key, a: Announcement, last: u32) -> Session
+fn open_session(key: Key, a: Announcement, last: u32) -> Session
     ensures { λ r. ⌜ r ≡ sessionOf key a last ⌝ }
 {
     let granted = first_granted(a);
@@ -87,20 +87,24 @@ pub fn open_session(key: Key, a: Announcement, last: u32) -> Session
     let total = a.total;
     let segments = a.segments;
     Session {
-        key: key,
-        kind: kind,
-        total: total,
-        segments: segments,
-        max: a.max,
-        pgn: a.pgn,
-        next: SegmentNumber(1),
-        granted: SegmentNumber(granted),
-        mark: last,
+        announced: Announced {
+            key: key,
+            kind: kind,
+            total: total,
+            segments: segments,
+            max: a.max,
+            pgn: a.pgn,
+        },
+        progress: Progress {
+            next: SegmentNumber(1),
+            granted: SegmentNumber(granted),
+            mark: last,
+        },
     }
 }
 
 // The CTS that answers an RTS.
-pub fn first_cts(key: Key, a: Announcement) -> Cts
+fn first_cts(key: Key, a: Announcement) -> Cts
     ensures { λ r. ⌜ r ≡ firstCts key a ⌝ }
 {
     let count = grant(a.max, a.segments.0);
@@ -109,5 +113,82 @@ pub fn first_cts(key: Key, a: Announcement) -> Cts
         next: SegmentNumber(1),
         count: count,
         pgn: a.pgn,
+    }
+}
+
+// A refusal of an announcement to the right destination: an RTS is answered by Abort.
+fn reject(k: Key, a: Announcement, n: Refusal) -> Answer
+    ensures { λ r. ⌜ r ≡ rejection k a n ⌝ }
+{
+    let kind = a.kind;
+    match kind {
+        Kind::Rts => Answer::RefusedRts(Rejection {
+            key: k,
+            refusal: n,
+            pgn: a.pgn,
+        }),
+        Kind::Bam => Answer::Refused(n),
+    }
+}
+
+// The session is opened: an RTS is answered by CTS.
+fn accept(k: Key, a: Announcement, last: u32) -> Step
+    ensures { λ r. ⌜ r ≡ opening k a last ⌝ }
+{
+    let s = open_session(k, a, last);
+    let kind = a.kind;
+    match kind {
+        Kind::Rts => {
+            let cts = first_cts(k, a);
+            Step {
+                change: Change::Opens(s),
+                answer: Answer::Grant(cts),
+            }
+        }
+        Kind::Bam => Step {
+            change: Change::Opens(s),
+            answer: Answer::Opened(k),
+        },
+    }
+}
+
+// An announcement of good form: 14, 15, else it is accepted.
+fn for_key(x: State, room: bool, k: Key, a: Announcement, last: u32) -> Step
+    ensures { λ r. ⌜ r ≡ forKey x room k a last ⌝ }
+{
+    match x {
+        State::Open(_) => Step {
+            change: Change::Stays,
+            answer: reject(k, a, Refusal::KeyOpen),
+        },
+        State::Closed => {
+            if room {
+                return accept(k, a, last);
+            }
+            Step {
+                change: Change::Stays,
+                answer: reject(k, a, Refusal::SlotsFull),
+            }
+        }
+    }
+}
+
+// An announcement for a key; room says whether there is a slot for it. 11 with nothing sent for a wrong destination; 11, 12, 13, 8; 14, 15.
+pub fn announce(x: State, room: bool, k: Key, a: Announcement, last: u32) -> Step
+    ensures { λ r. ⌜ r ≡ announcedTo x room k a last ⌝ }
+{
+    let kind = a.kind;
+    if is_misdirected(k.da, kind) {
+        return Step {
+            change: Change::Stays,
+            answer: Answer::Refused(Refusal::AnnouncementForm),
+        };
+    }
+    match judge_form(a) {
+        Form::Good => for_key(x, room, k, a, last),
+        Form::Bad(n) => Step {
+            change: Change::Stays,
+            answer: reject(k, a, n),
+        },
     }
 }

@@ -1,27 +1,36 @@
-// One session by value (01, "Life of a session").
+// What a frame or a reading makes of one session, by value (01, "Life of a session"). No slots and no store are known here.
 pub mod announcement;
+pub mod bounds;
 pub mod clock;
 pub mod end;
-pub mod grant;
 pub mod segment;
 
-use frame::ByteCount;
-use frame::SegmentNumber;
-use transport::Key;
-use transport::Kind;
+use answer::Answer;
+use progress::Announced;
+use progress::Progress;
 
 // An open session: what was announced, and how far it has come.
 pub struct Session {
-    pub key: Key,
-    pub kind: Kind,
-    pub total: ByteCount,
-    pub segments: SegmentNumber,
-    pub max: u8,
-    pub pgn: u32,
-    // the next segment
-    pub next: SegmentNumber,
-    // the last segment that a CTS granted; 0 in a BAM, which has no grants
-    pub granted: SegmentNumber,
-    // the reading of the clock from which silence counts
-    pub mark: u32,
+    pub announced: Announced,
+    pub progress: Progress,
+}
+
+// What is known of a key: its session, if one is open.
+pub enum State {
+    Closed,
+    Open(Session),
+}
+
+// What becomes of the session.
+pub enum Change {
+    Stays,
+    Opens(Session),
+    Moves(Progress),
+    Ends,
+}
+
+// What becomes of the session, and what is answered.
+pub struct Step {
+    pub change: Change,
+    pub answer: Answer,
 }

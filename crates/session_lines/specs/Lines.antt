@@ -6,9 +6,9 @@ use Rattle.frame.specs.Refusals.{numberOf}
 use Rattle.frame.specs.declared.refusal.Refusal.{Refusal}
 use Rattle.transport.specs.declared.Key.{Key}
 use Rattle.transport.specs.declared.Kind.{Kind}
-use Rattle.session.specs.Announcements.{isRts}
-use Rattle.receiver.specs.declared.answer.Message.{Message}
-use Rattle.receiver.specs.declared.answer.Ending.{Ending}
+use Rattle.transport.specs.Kinds.{isRts}
+use Rattle.answer.specs.declared.Message.{Message}
+use Rattle.answer.specs.declared.Ending.{Ending}
 use Rattle.text.specs.Ascii.{ascii}
 use Rattle.text.specs.Line.{lineOf}
 

@@ -3,7 +3,7 @@ ghost use mathlib.Core.Path.{_≡_};
 ghost use mathlib.Core.List.{[], _++_};
 ghost use Rattle.session_lines.specs.Lines.{sessionLine, messageNumbers, messageLine, messageLines, eomaWord};
 ghost use Rattle.text.specs.Line.{Placed};
-use receiver::answer::Message;
+use answer::Message;
 use text::Wrote;
 use text::line::write_line;
 use text::line::write_two;

@@ -2,7 +2,7 @@
 ghost use mathlib.Core.List.{[], _∷_};
 ghost use Rattle.session_lines.specs.Lines.{sessionLine, openWord, tookWord, ctsWord};
 ghost use Rattle.text.specs.Line.{Placed};
-use receiver::answer::Taken;
+use answer::Taken;
 use text::Wrote;
 use text::line::write_plain;
 use transport::Key;

@@ -8,9 +8,10 @@ use Rattle.laws.specs.Choice.{each-of}
 use Rattle.frame.specs.declared.Address.{Address}
 use Rattle.session.specs.declared.Session.{Session}
 use Rattle.slots.specs.declared.Slot.{Slot}
-use Rattle.slots.specs.declared.SlotState.the-variants.{Open}
+use Rattle.session.specs.declared.State.the-variants.{Open}
 use Rattle.slots.specs.Slots.{freeSlot}
-use Rattle.slots.specs.Bounds.{sessionOk, stateOk, slotOk, twinOf, slotsOk}
+use Rattle.session.specs.Bounds.{sessionOk, stateOk}
+use Rattle.slots.specs.Bounds.{slotOk, twinOf, slotsOk}
 
 pub slot-of : (own : Address) (l : List Slot) (i : ℕ) → slotsOk own l ≡ true → slotOk own (getD l i freeSlot) ≡ true
 unfolding slotsOk

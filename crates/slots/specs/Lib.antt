@@ -1,4 +1,3 @@
 pub mod Slots
 pub mod Bounds
-pub mod Places
 pub mod Facts

@@ -1,23 +1,18 @@
-// Eight slots over one store: found, judged, written and read (01, "Numbers that hold everywhere").
+// Eight slots over one store (01, "Numbers that hold everywhere").
 pub mod bounds;
-pub mod place;
-pub mod search;
 pub mod store;
 
-use session::Session;
+use answer::place;
+use session::State;
 
-pub const SLOTS: usize = 8;
+pub const SLOTS: usize = place::SLOTS;
 
 // Slot i's part of the store starts at i times this.
-pub const SLOT_BYTES: usize = 4096;
+pub const SLOT_BYTES: usize = place::SLOT_BYTES;
 
-pub enum SlotState {
-    Free,
-    Open(Session),
-}
-
+// A slot is free where no session is open in it.
 pub struct Slot {
-    pub state: SlotState,
+    pub state: State,
 }
 
 // What a search over the slots finds.

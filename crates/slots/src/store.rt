@@ -1,25 +1,14 @@
 // A segment's data into the store: each slot has its own 4,096 bytes of it (01, "Segment").
 ghost use mathlib.Core.Path.{_≡_};
 ghost use Prim.Native.Nat.{_+_, _*_, _≤_, _<_};
-ghost use lib.ListN.{length, drop};
+ghost use lib.ListN.{length};
 ghost use lib.Seq.{paste};
 ghost use Rattle.transport.specs.Segments.{dataAt};
 use super::SLOT_BYTES;
+use octets::copy;
 
 // The data of every segment but the last.
 const SEGMENT_BYTES: usize = 60;
-
-// Copies n bytes of src, from its index from on, into part from at on.
-fn copy(part: &mut [u8], at: usize, src: &[u8], from: usize, n: usize)
-    requires { ⌜ (at + n ≤ length (now part)) × (from + n ≤ length (now src)) ⌝ }
-    ensures { λ _. ⌜ now (part .exit) ≡ paste (now (part .entry)) at (drop from (now (src .entry))) n ⌝ }
-{
-    let mut j: usize = 0;
-    while j < n {
-        part[at + j] = src[from + j];
-        j = j + 1;
-    }
-}
 
 // A data frame's data into part from at on. A whole segment goes by way of an array of its own, whose length is known and which lies in
 // no lent buffer, so that both copies are a few moves.

@@ -6,7 +6,8 @@ use native.Mathlib.Omega.{arith}
 use mathlib.Core.Path.{_≡_, refl, sym, ap, subst, _∙_}
 use mathlib.Core.List.{List, [], _∷_, _++_, append-assoc}
 use lib.ListN.{length, getD, set, take, drop, length-append, length-drop, length-set, take-append-drop}
-use lib.Seq.{take-at, drop-at, drop-drop, length-take-le, set-split, set-at, take-suc, append-snoc}
+use lib.Seq.{paste, take-at, drop-at, drop-drop, length-take-le, set-split, set-at, take-suc, append-snoc}
+use Rattle.laws.specs.Pastes.{paste-whole}
 
 -- x in the place of as many elements from at on
 unfoldable pub put : List ℕ → ℕ → List ℕ → List ℕ
@@ -73,6 +74,12 @@ put-by {d} {at} {x} {y} {next} {out} e p = subst (λ (z : List ℕ). PutAt d at 
 
 pub put-set : (d : List ℕ) (at v : ℕ) → at < length d → PutAt d at (v ∷ []) (at + 1) (set d at v)
 put-set d at v h = record { place = refl; bytes = put-one d at v h }
+
+-- all of x copied at once
+pub put-copied : (d : List ℕ) (at : ℕ) (x : List ℕ) {out : List ℕ} → out ≡ paste d at x (length x) → PutAt d at x (at + length x) out
+unfolding put
+put-copied d at x e =
+    record { place = refl; bytes = e ∙ paste-whole d at x ∙ append-assoc (take at d) x (drop (at + length x) d) }
 
 module _ (d : List ℕ) (at : ℕ) (x : List ℕ) (p : ℕ) (o : List ℕ) (room : at + length x ≤ length d) (w : PutAt d at x p o) where
   pub put-same : length o ≡ length d

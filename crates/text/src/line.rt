@@ -11,22 +11,9 @@ use super::decimal::octet_width;
 use super::decimal::put_number;
 use super::decimal::put_octet;
 use super::decimal::width;
+use octets::copy;
 
 // ---- The parts of a line, where the caller has seen that there is room.
-
-fn put_text(out: &mut [u8], at: usize, text: &[u8]) -> usize
-    requires { ⌜ at + length (now text) ≤ length (now out) ⌝ }
-    ensures { λ r. ⌜ PutAt (now (out .entry)) at (now (text .entry)) r (now (out .exit)) ⌝ }
-{
-    let mut place = at;
-    let mut i: usize = 0;
-    while i < text.len() {
-        out[place] = text[i];
-        place = place + 1;
-        i = i + 1;
-    }
-    place
-}
 
 fn put_spaced(out: &mut [u8], at: usize, n: u64) -> usize
     requires { ⌜ at + length (spaced n) ≤ length (now out) ⌝ }
@@ -125,7 +112,8 @@ pub fn put_line(out: &mut [u8], at: usize, word: &[u8], fields: &[u64], octets: 
     requires { ⌜ at + length (lineOf (now word) (now fields ++ now octets)) ≤ length (now out) ⌝ }
     ensures { λ r. ⌜ PutAt (now (out .entry)) at (lineOf (now (word .entry)) (now (fields .entry) ++ now (octets .entry))) r (now (out .exit)) ⌝ }
 {
-    let first = put_text(out, at, word);
+    let first = at + word.len();
+    copy(out, at, word, 0, word.len());
     let second = put_fields(out, first, fields);
     let third = put_octets(out, second, octets);
     out[third] = 10;

@@ -4,12 +4,12 @@ use native.Mathlib.Nat.{one-le-pow}
 use native.Mathlib.Omega.{arith}
 use native.Mathlib.Decide.{decLt}
 use mathlib.Core.Path.{_≡_, refl, sym, ap, subst, _∙_}
-use mathlib.Core.Bool.{Bool, true, false, cond}
 use mathlib.Core.List.{List, [], _∷_, _++_, append-assoc}
 use lib.Dec.{ltb, eqb}
 use lib.ListN.{length, getD, drop}
 use lib.Seq.{drop-append-seam, drop-drop, getD-drop}
 use borrow.Author.Tests.{lt-ltb, le-ltb, ne-eqb, ltb-true, ltb-false, eqb-false}
+use Rattle.laws.specs.Bools.{by-test, cond-true, cond-false}
 use Rattle.laws.specs.Choice.{then, else}
 use Rattle.trace.specs.declared.Fault.{Fault}
 use Rattle.trace.specs.declared.number.NumberRead.{NumberRead}
@@ -91,17 +91,6 @@ record Later (more at : ℕ) (l : List ℕ) (n next : ℕ) : Type 0 where
 
 never : {A : Type 0} {f : Fault} {n next : ℕ} → Bad f ≡ Number n next → A
 never e = absurd (let z : _≡_ {A = ℕ} 0 1 = cc in omega arith)
-
--- the cases of a test
-pub by-test : {A : Type 0} (t : Bool) → (t ≡ true → A) → (t ≡ false → A) → A
-by-test true p q = p refl
-by-test false p q = q refl
-
-cond-true : {A : Type 0} (t : Bool) (a b : A) → t ≡ true → cond t a b ≡ a
-cond-true t a b e = ap (λ (u : Bool). cond u a b) e
-
-cond-false : {A : Type 0} (t : Bool) (a b : A) → t ≡ false → cond t a b ≡ b
-cond-false t a b e = ap (λ (u : Bool). cond u a b) e
 
 value-same : {n next m next′ : ℕ} → Number n next ≡ Number m next′ → n ≡ m
 value-same e = cc

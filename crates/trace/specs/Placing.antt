@@ -8,10 +8,11 @@ use lib.Dec.{leb}
 use mathlib.Core.Bool.{Bool, true, false, not}
 use borrow.Author.Tests.{le-leb, lt-leb, leb-true, not-true, not-false}
 use Rattle.laws.specs.Choice.{then, else}
+use Rattle.laws.specs.Pastes.{paste-whole}
 use mathlib.Core.Path.{_≡_, refl, sym, ap, _∙_}
 use mathlib.Core.List.{List, [], _∷_, _++_, append-assoc}
 use lib.ListN.{length, getD, set, take, drop, length-append, length-drop}
-use lib.Seq.{paste, paste-suc, length-paste, take-length, take-at, drop-at, drop-drop, length-take-le}
+use lib.Seq.{paste, paste-suc, length-paste, take-at, drop-at, drop-drop, length-take-le}
 use Rattle.trace.specs.declared.output.Written.{Written}
 use Rattle.trace.specs.declared.output.Written.the-variants.{Next, NoRoom, TooLong}
 use Rattle.trace.specs.Records.{Record, recordBytes}
@@ -50,7 +51,11 @@ module _ (d : List ℕ) (at : ℕ) where
 
   -- all stored
   pub stored : (s : List ℕ) (n : ℕ) → length s ≡ n → paste d at s n ≡ placed d at s
-  stored s n e = ap (paste d at s) (sym e) ∙ ap (λ (l : List ℕ). take at d ++ l ++ drop (at + length s) d) (take-length s)
+  stored s n e = ap (paste d at s) (sym e) ∙ paste-whole d at s
+
+  -- all copied at once
+  pub put-copied : (s : List ℕ) {out : List ℕ} → out ≡ paste d at s (length s) → Put d at s (at + length s) out
+  put-copied s e = record { place = refl; bytes = e ∙ paste-whole d at s }
 
   pub length-placed : (s : List ℕ) → at + length s ≤ length d → length (placed d at s) ≡ length d
   length-placed s h = ap length (sym (stored s (length s) refl)) ∙ length-paste d at s (length s) h (omega arith)

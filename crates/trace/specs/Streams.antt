@@ -11,6 +11,7 @@ use lib.Dec.{ltb, leb, eqb}
 use lib.ListN.{length, drop, length-append, length-drop, drop-of-length-le}
 use lib.Seq.{drop-append-add, drop-append-le}
 use borrow.Author.Tests.{le-leb, lt-leb, le-ltb, leb-true, leb-false, ltb-true, ltb-false, eqb-true}
+use Rattle.laws.specs.Bools.{by-test, over-cond}
 use Rattle.trace.specs.declared.Fault.{Fault}
 use Rattle.trace.specs.declared.Fault.the-variants.{Cut, NotShortest, TooLarge, Kind, Length}
 use Rattle.trace.specs.declared.number.NumberRead.{NumberRead}
@@ -20,7 +21,7 @@ use Rattle.trace.specs.declared.record.RecordRead.the-variants.{End, Rea
 use Rattle.trace.specs.Numbers.{onto, lastGroup, laterGroups, numberOn, numberAt, numberBytes}
 use Rattle.trace.specs.Records.{faulted, onNumber, readingAt, bytesAt, lengthAt, frameAt, byKind, recordAt}
 use Rattle.trace.specs.NumberLaws.{size-one, size-most}
-use Rattle.trace.specs.NumberTrips.{by-test, Bytes, Stands, number-stands}
+use Rattle.trace.specs.NumberTrips.{Bytes, Stands, number-stands}
 
 -- ---- bytes before
 
@@ -35,11 +36,6 @@ moved k (Frame identifier start n next) = Frame identifier (k + start) n (k + ne
 moved k End = End
 moved k More = More
 moved k (Bad f) = Bad f
-
--- a test before or after
-over-cond : {A B : Type 0} (f : A → B) (t : Bool) (a b : A) → cond t (f a) (f b) ≡ f (cond t a b)
-over-cond f true a b = refl
-over-cond f false a b = refl
 
 module _ (k : ℕ) where
   last-moved : (at b : ℕ) → lastGroup (k + at) b ≡ movedNumber k (lastGroup at b)

@@ -9,6 +9,7 @@ use super::number;
 use super::number::NumberRead;
 use super::output;
 use super::output::Written;
+use octets::copy;
 
 pub enum RecordRead {
     // no byte stands at the place: between two records, not inside one
@@ -154,5 +155,6 @@ fn put_frame(out: &mut [u8], at: usize, identifier: u32, s: &[u8]) -> usize
     let after_kind = number::put(out, at, 1);
     let after_identifier = number::put(out, after_kind, identifier);
     let start = number::put(out, after_identifier, s.len() as u32);
-    output::copy(out, start, s)
+    copy(out, start, s, 0, s.len());
+    start + s.len()
 }

@@ -1,3 +1,4 @@
+pub mod Kinds
 pub mod Control
 pub mod Segments
 pub mod Responses

@@ -1,5 +1,5 @@
 -- Data frames read: 01, "Transfer frames"; 001, Figures 37 and 38.
-use Prim.Native.Nat.{ℕ, _-_, _%_}
+use Prim.Native.Nat.{ℕ, _+_, _-_, _%_, _≤_, _<_}
 use mathlib.Core.Bool.{cond}
 use mathlib.Core.List.{List}
 use lib.Dec.{ltb}
@@ -27,3 +27,8 @@ segmentAt d = record { format = formatAt d; number = record { 0 = numberAt d }; 
 
 unfoldable pub dataFrameOf : List ℕ → DataFrame
 dataFrameOf d = cond (ltb (length d) 5) (dataframe.Refused TransferLength) (dataframe.Segment (segmentAt d))
+
+-- the number is one of three bytes, and the data lies in the frame
+abbrev pub Fits : List ℕ → DataFrame → Type 0
+Fits d (dataframe.Segment sg) = (sg .number .0 < 16777216) × (4 + sg .room ≤ length d)
+Fits d (dataframe.Refused n) = Unit {0}

@@ -1,6 +1,7 @@
 // Transfer frames: FD.TP.CM and FD.TP.DT, read and written (01, "Transfer frames").
 ghost use mathlib.Core.Path.{_≡_};
 ghost use lib.ListN.{getD};
+ghost use Rattle.transport.specs.Kinds.{isRts};
 
 pub mod control;
 pub mod reason;
@@ -21,6 +22,15 @@ pub struct Key {
 pub enum Kind {
     Rts,
     Bam,
+}
+
+pub fn is_rts(kind: Kind) -> bool
+    ensures { λ r. ⌜ r ≡ isRts kind ⌝ }
+{
+    match kind {
+        Kind::Rts => true,
+        Kind::Bam => false,
+    }
 }
 
 // The first byte, 0 where there is none.

@@ -1,6 +1,6 @@
 // Data frames (001, Figures 37 and 38).
 ghost use mathlib.Core.Path.{_≡_};
-ghost use Rattle.transport.specs.Segments.{dataFrameOf};
+ghost use Rattle.transport.specs.Segments.{dataFrameOf, Fits};
 use frame::SegmentNumber;
 use frame::octet::low24_at;
 use frame::refusal::Refusal;
@@ -20,7 +20,7 @@ pub enum DataFrame {
 
 // What a data frame says. Its session number is read by control::key_of.
 pub fn read_segment(bytes: &[u8]) -> DataFrame
-    ensures { λ r. ⌜ r ≡ dataFrameOf (now (bytes .entry)) ⌝ }
+    ensures { λ r. ⌜ (r ≡ dataFrameOf (now (bytes .entry))) × Fits (now (bytes .entry)) r ⌝ }
 {
     if bytes.len() < 5 {
         return DataFrame::Refused(Refusal::TransferLength);

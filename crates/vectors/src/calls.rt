@@ -1,13 +1,14 @@
 // Transfers through the receiver's calls: Figures A1, A3 and A6, a slot full of old bytes, and nine senders. What is printed are the
 // program's lines.
 use super::show;
+use answer::place::bytes_of;
+use answer::place::place_of;
+use engine::call::take_frame;
 use frame::Address;
 use frame::octet::low_byte;
 use receiver::Receiver;
-use receiver::answer::Answer;
-use report::answer::write_answer;
-use slots::place::Place;
-use slots::place::bytes_of;
+use record_bytes::layout::write_record;
+use report::answer_lines::write_answer;
 use text::Wrote;
 
 // What a transfer announces.
@@ -18,19 +19,6 @@ struct Transfer {
     segments: u32,
     max: u8,
     pgn: u32,
-}
-
-fn place_of(a: Answer) -> Place {
-    match a {
-        Answer::HandedOver(m) => {
-            let total = m.total;
-            Place::Message {
-                slot: m.slot,
-                total: total,
-            }
-        }
-        _ => Place::Group { start: 0, len: 0 },
-    }
 }
 
 fn print(w: Wrote, lines: &[u8]) {
@@ -45,14 +33,12 @@ fn print(w: Wrote, lines: &[u8]) {
 }
 
 // One frame taken, and its lines.
-fn take(r: Receiver, id: u32, bytes: &[u8], store: &mut [u8]) -> Receiver {
-    let stepped = r.frame(id, bytes, store);
-    let answer = stepped.answer;
+fn take(receiver: &mut [u8], id: u32, bytes: &[u8], store: &mut [u8]) {
+    let answer = take_frame(receiver, id, bytes, store);
     let message = bytes_of(place_of(answer), bytes, store);
     let mut lines = [0u8; 20000];
-    let w = write_answer(&mut lines, 0, id, bytes, answer, message);
+    let w = write_answer(&mut lines, 0, bytes, answer, message);
     print(w, &lines);
-    stepped.next
 }
 
 // The bytes of an RTS, a BAM or an EOMS.
@@ -73,14 +59,14 @@ fn control(t: Transfer, kind: u8, max: u8, assurance: u8) -> [u8; 12] {
     ]
 }
 
-fn announce(r: Receiver, t: Transfer, store: &mut [u8]) -> Receiver {
+fn announce(receiver: &mut [u8], t: Transfer, store: &mut [u8]) {
     let bytes = control(t, 0, t.max, 0);
-    take(r, 0x1C4D2100 + t.sa as u32, &bytes, store)
+    take(receiver, 0x1C4D2100 + t.sa as u32, &bytes, store);
 }
 
-fn finish(r: Receiver, t: Transfer, store: &mut [u8]) -> Receiver {
+fn finish(receiver: &mut [u8], t: Transfer, store: &mut [u8]) {
     let bytes = control(t, 2, 0, 0);
-    take(r, 0x1C4D2100 + t.sa as u32, &bytes, store)
+    take(receiver, 0x1C4D2100 + t.sa as u32, &bytes, store);
 }
 
 // Byte j of the data of segment n is 7 times the sender, 3 times n and j together, in one byte.
@@ -94,30 +80,35 @@ fn fill(bytes: &mut [u8], sa: u8, n: u32) {
     }
 }
 
-fn send_segment(r: Receiver, t: Transfer, n: u32, store: &mut [u8]) -> Receiver {
+fn send_segment(receiver: &mut [u8], t: Transfer, n: u32, store: &mut [u8]) {
     let mut bytes = [0u8; 64];
     fill(&mut bytes, t.sa, n);
     bytes[0] = t.session % 16 * 16;
     bytes[1] = low_byte(n);
     bytes[2] = low_byte(n / 256);
     bytes[3] = low_byte(n / 65536);
-    take(r, 0x1C4E2100 + t.sa as u32, &bytes, store)
+    take(receiver, 0x1C4E2100 + t.sa as u32, &bytes, store);
 }
 
 // A whole transfer: announced, every segment in order, ended.
-fn whole(r: Receiver, t: Transfer, store: &mut [u8]) -> Receiver {
-    let mut next = announce(r, t, store);
+fn whole(receiver: &mut [u8], t: Transfer, store: &mut [u8]) {
+    announce(receiver, t, store);
     let mut n: u32 = 0;
     while n < t.segments {
         n = n + 1;
-        next = send_segment(next, t, n, store);
+        send_segment(receiver, t, n, store);
     }
-    finish(next, t, store)
+    finish(receiver, t, store);
+}
+
+fn open(receiver: &mut [u8]) {
+    let opened = Receiver::open(Address(33), 1250, 0);
+    write_record(opened.receiver, receiver);
 }
 
 // Figure A3 grants 3 segments and then 1, Figure A1's four are one grant here, Figure A6 announces assurance data.
-pub fn figures(store: &mut [u8]) {
-    let opened = Receiver::open(Address(33), 1250, 0);
+pub fn figures(receiver: &mut [u8], store: &mut [u8]) {
+    open(receiver);
     let a3 = Transfer {
         sa: 0,
         session: 2,
@@ -126,7 +117,7 @@ pub fn figures(store: &mut [u8]) {
         max: 3,
         pgn: 65259,
     };
-    let r1 = whole(opened.receiver, a3, store);
+    whole(receiver, a3, store);
     let a1 = Transfer {
         sa: 0,
         session: 1,
@@ -135,7 +126,7 @@ pub fn figures(store: &mut [u8]) {
         max: 255,
         pgn: 65259,
     };
-    let r2 = whole(r1, a1, store);
+    whole(receiver, a1, store);
     let a6 = Transfer {
         sa: 0,
         session: 0,
@@ -145,7 +136,7 @@ pub fn figures(store: &mut [u8]) {
         pgn: 65260,
     };
     let bam = control(a6, 4, 255, 1);
-    let r3 = take(r2, 0x1C4DFF00, &bam, store);
+    take(receiver, 0x1C4DFF00, &bam, store);
     let full = Transfer {
         sa: 5,
         session: 3,
@@ -154,7 +145,7 @@ pub fn figures(store: &mut [u8]) {
         max: 255,
         pgn: 61184,
     };
-    whole(r3, full, store);
+    whole(receiver, full, store);
 }
 
 fn sender(sa: u8) -> Transfer {
@@ -168,42 +159,36 @@ fn sender(sa: u8) -> Transfer {
     }
 }
 
-fn all_announce(r: Receiver, store: &mut [u8]) -> Receiver {
-    let mut next = r;
+fn all_announce(receiver: &mut [u8], store: &mut [u8]) {
     let mut sa: u8 = 1;
     while sa < 10 {
-        next = announce(next, sender(sa), store);
+        announce(receiver, sender(sa), store);
         sa = sa + 1;
     }
-    next
 }
 
 // Segment n of each of the nine, of which the ninth is not open.
-fn all_send(r: Receiver, n: u32, store: &mut [u8]) -> Receiver {
-    let mut next = r;
+fn all_send(receiver: &mut [u8], n: u32, store: &mut [u8]) {
     let mut sa: u8 = 1;
     while sa < 10 {
-        next = send_segment(next, sender(sa), n, store);
+        send_segment(receiver, sender(sa), n, store);
         sa = sa + 1;
     }
-    next
 }
 
-fn all_finish(r: Receiver, store: &mut [u8]) -> Receiver {
-    let mut next = r;
+fn all_finish(receiver: &mut [u8], store: &mut [u8]) {
     let mut sa: u8 = 1;
     while sa < 10 {
-        next = finish(next, sender(sa), store);
+        finish(receiver, sender(sa), store);
         sa = sa + 1;
     }
-    next
 }
 
 // Eight transfers interleaved, and a ninth for which no slot is free.
-pub fn nine_senders(store: &mut [u8]) {
-    let opened = Receiver::open(Address(33), 1250, 0);
-    let r1 = all_announce(opened.receiver, store);
-    let r2 = all_send(r1, 1, store);
-    let r3 = all_send(r2, 2, store);
-    all_finish(r3, store);
+pub fn nine_senders(receiver: &mut [u8], store: &mut [u8]) {
+    open(receiver);
+    all_announce(receiver, store);
+    all_send(receiver, 1, store);
+    all_send(receiver, 2, store);
+    all_finish(receiver, store);
 }

@@ -6,6 +6,8 @@ mod groups;
 mod show;
 mod transfers;
 
+use record_bytes::places::RECORD_BYTES;
+
 fn main() {
     groups::headers();
     groups::padding();
@@ -13,7 +15,8 @@ fn main() {
     transfers::received();
     transfers::sent();
     transfers::segments();
+    let mut receiver = [0u8; RECORD_BYTES];
     let mut store = [0xEEu8; 32768];
-    calls::figures(&mut store);
-    calls::nine_senders(&mut store);
+    calls::figures(&mut receiver, &mut store);
+    calls::nine_senders(&mut receiver, &mut store);
 }

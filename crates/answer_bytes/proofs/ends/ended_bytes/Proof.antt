@@ -4,11 +4,10 @@ use Rattle.answer_bytes.proofs.ends.ended_bytes.Statement.{statement}
 use Rattle.answer_bytes.proofs.ends.ended_bytes.Tie as tie
 use Rattle.answer_bytes.proofs.ends.ended_bytes.Reads as reads
 use Rattle.answer_bytes.proofs.ends.ended_bytes.Lts as lts
-use Rattle.answer_bytes.proofs.answer.ended_fields.Reads as ended-fields-reads
-use Rattle.answer_bytes.proofs.answer.fields_bytes.Reads as fields-bytes-reads
-use Rattle.answer_bytes.proofs.answer.put_response.Reads as put-response-reads
-use Rattle.receiver.proofs.answer.response_of_end.Reads as response-of-end-reads
-use Rattle.record_bytes.proofs.layout.copy.Reads as copy-reads
+use Rattle.answer_bytes.proofs.ended_fields.Reads as ended-fields-reads
+use Rattle.answer_bytes.proofs.fields_bytes.Reads as fields-bytes-reads
+use Rattle.answer_bytes.proofs.put_response.Reads as put-response-reads
+use Rattle.answer.proofs.sent.response_of_end.Reads as response-of-end-reads
 
 ended-fields-requires : tie.Need-ended-fields-requires
 ended-fields-requires c κs = search needs

@@ -12,9 +12,9 @@ use Rattle.dwaebinam.proofs.export.dwb_frame.Statement.{statement}
 use Rattle.dwaebinam.proofs.export.dwb_frame.Tie as tie
 use Rattle.dwaebinam.proofs.export.dwb_frame.Reads as reads
 use Rattle.dwaebinam.proofs.export.dwb_frame.Lts as lts
-use Rattle.answer_bytes.proofs.answer.write_answer.Reads as write-answer-reads
-use Rattle.in_place.proofs.call.take_frame.Reads as take-frame-reads
-use Rattle.receiver.proofs.answer.number.Reads as number-reads
+use Rattle.answer_bytes.proofs.write_answer.Reads as write-answer-reads
+use Rattle.engine.proofs.call.take_frame.Reads as take-frame-reads
+use Rattle.answer.proofs.number.Reads as number-reads
 
 returns : tie.Need-returns
 unfolding framedIn

@@ -5,7 +5,8 @@ use lib.ListN.{length}
 use denote.Ref.{now}
 use borrow.Author.Tests.{ne-eqb}
 use Rattle.laws.specs.Choice.{then}
-use Rattle.receiver.specs.declared.answer.Opened.{Opened}
+use Rattle.receiver.specs.declared.Opened.{Opened}
+use Rattle.answer.specs.Answers.{acceptanceNumber}
 use Rattle.receiver.specs.Bounds.{opened}
 use Rattle.dwaebinam.specs.Calls.{openedIn}
 use Rattle.dwaebinam.proofs.Exports.{opened-put}
@@ -14,13 +15,14 @@ use Rattle.dwaebinam.proofs.export.dwb_open.Statement.{statement}
 use Rattle.dwaebinam.proofs.export.dwb_open.Tie as tie
 use Rattle.dwaebinam.proofs.export.dwb_open.Reads as reads
 use Rattle.dwaebinam.proofs.export.dwb_open.Lts as lts
-use Rattle.dwaebinam.proofs.export.opening_number.Reads as opening-number-reads
+use Rattle.answer.proofs.acceptance_number.Reads as acceptance-number-reads
+use Rattle.record_bytes.specs.Places.{recordLength}
 use Rattle.record_bytes.proofs.layout.write_record.Reads as write-record-reads
 use Rattle.receiver.proofs.Receiver.open.Reads as open-reads
 
 returns : tie.Need-returns
 unfolding openedIn
-returns c = then (not (eqb (length (now (c .before .before .args .buffer))) 249)) _ _ _ (ap not (ne-eqb _ _ (c .if1 .taken))) refl
+returns c = then (not (eqb (length (now (c .before .before .args .buffer))) recordLength)) _ _ _ (ap not (ne-eqb _ _ (c .if1 .taken))) refl
 
 open-requires : tie.Need-open-requires
 open-requires c κs = search needs
@@ -28,8 +30,8 @@ open-requires c κs = search needs
 write-record-requires : tie.Need-write-record-requires
 write-record-requires c κs = search needs
 
-opening-number-requires : tie.Need-opening-number-requires
-opening-number-requires c κs = search needs
+acceptance-number-requires : tie.Need-acceptance-number-requires
+acceptance-number-requires c κs = search needs
 
 same-length : tie.Need-same-length
 same-length c = search needs
@@ -38,7 +40,7 @@ returns-2 : tie.Need-returns-2
 unfolding opened
 returns-2 c =
     let a = c .before .before .before .before .before .before .before .before .before .args in
-    opened-put (a .own) (a .limit) (a .reading) (now (a .buffer)) (c .before .before .before .write-record .result) (c .before .before .before .before .before .before .«open» .result .receiver) (c .opening-number .result) (c .before .before .before .write-record .last .1 .0) (c .before .before .before .before .before .before .before .if1 .left) (ap (λ (x : Opened). x .receiver) (c .before .before .before .before .before .before .«open» .ensures)) (c .before .before .before .write-record .ensures) (c .opening-number .ensures)
+    opened-put (a .own) (a .limit) (a .reading) (now (a .buffer)) (c .before .before .before .write-record .result) (c .before .before .before .before .before .before .«open» .result .receiver) (c .acceptance-number .result) (c .before .before .before .write-record .last .1 .0) (c .before .before .before .before .before .before .before .if1 .left) (ap (λ (x : Opened). x .receiver) (c .before .before .before .before .before .before .«open» .ensures)) (c .before .before .before .write-record .ensures) (c .acceptance-number .ensures ∙ ap (λ (x : Opened). acceptanceNumber (x .answer)) (c .before .before .before .before .before .before .«open» .ensures))
 
 pub dwb-open-spec : {M : Type 1} → statement M
 dwb-open-spec =
@@ -47,6 +49,6 @@ dwb-open-spec =
     returns
     open-requires
     write-record-requires
-    opening-number-requires
+    acceptance-number-requires
     same-length
     returns-2)

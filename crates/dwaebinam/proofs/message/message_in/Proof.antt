@@ -5,7 +5,7 @@ use lib.ListN.{getD}
 use denote.Ref.{now}
 use borrow.Author.Tests.{eq-eqb, ne-eqb}
 use Rattle.laws.specs.Choice.{then, else}
-use Rattle.slots.specs.Places.{messageCut}
+use Rattle.answer.specs.Places.{messageCut}
 use Rattle.dwaebinam.specs.Message.{messageIn}
 use borrow.Author.Needs.{needs}
 use Rattle.dwaebinam.proofs.message.message_in.Statement.{statement}

@@ -4,6 +4,7 @@ use lib.ListN.{length}
 use denote.Ref.{now}
 use borrow.Author.Tests.{eq-eqb, ne-eqb, not-true, not-false}
 use Rattle.laws.specs.Choice.{and-next, and-stop}
+use Rattle.record_bytes.specs.Places.{recordLength}
 use Rattle.record_bytes.specs.Layout.{piecesOf, recordAt}
 use Rattle.slots.specs.Bounds.{openingOk}
 use Rattle.frame.specs.declared.Address.{Address}
@@ -15,7 +16,7 @@ use Rattle.lent_record.proofs.ready.is_ready.Tie as tie
 returns : tie.Need-returns
 returns c =
     let a = c .before .before .args in
-    and-stop (eqb (length (now (a .bytes))) 249) _ (ne-eqb _ _ (c .if1 .taken)) ∙ sym (ready-in (now (a .bytes)) (a .store))
+    and-stop (eqb (length (now (a .bytes))) recordLength) _ (ne-eqb _ _ (c .if1 .taken)) ∙ sym (ready-in (now (a .bytes)) (a .store))
 
 mul-if2 : tie.Need-mul-if2
 mul-if2 c = search needs
@@ -23,7 +24,7 @@ mul-if2 c = search needs
 returns-2 : tie.Need-returns-2
 returns-2 c =
     let a = c .before .before .before .args in
-    and-next (eqb (length (now (a .bytes))) 249) _ _ (eq-eqb _ _ (c .before .if1 .left))
+    and-next (eqb (length (now (a .bytes))) recordLength) _ _ (eq-eqb _ _ (c .before .if1 .left))
     (and-stop (eqb (a .store) 32768) _ (ne-eqb _ _ (c .if2 .taken)))
     ∙ sym (ready-in (now (a .bytes)) (a .store))
 
@@ -41,7 +42,7 @@ returns-3 c =
     let a = c .before .before .before .before .before .before .before .args in
     let b = now (a .bytes) in
     let own : Address = recordAt b .own in
-    and-next (eqb (length (now (a .bytes))) 249) _ _ (eq-eqb _ _ (c .before .before .before .before .before .if1 .left))
+    and-next (eqb (length (now (a .bytes))) recordLength) _ _ (eq-eqb _ _ (c .before .before .before .before .before .if1 .left))
     (and-next (eqb (a .store) 32768) _ _ (eq-eqb _ _ (c .before .before .before .before .if2 .left))
     (and-stop _ (piecesReady own (piecesOf b)) (ap (openingOk own) (sym (c .before .before .word-at .ensures)) ∙ sym (c .before .opening-ok .ensures) ∙ not-true _ (c .if3 .taken))))
     ∙ sym (ready-in (now (a .bytes)) (a .store))
@@ -54,7 +55,7 @@ returns-4 c =
     let a = c .before .before .before .before .before .before .before .before .args in
     let b = now (a .bytes) in
     let own : Address = recordAt b .own in
-    and-next (eqb (length (now (a .bytes))) 249) _ _ (eq-eqb _ _ (c .before .before .before .before .before .before .if1 .left))
+    and-next (eqb (length (now (a .bytes))) recordLength) _ _ (eq-eqb _ _ (c .before .before .before .before .before .before .if1 .left))
     (and-next (eqb (a .store) 32768) _ _ (eq-eqb _ _ (c .before .before .before .before .before .if2 .left))
     (and-next _ _ _ (ap (openingOk own) (sym (c .before .before .before .word-at .ensures)) ∙ sym (c .before .before .opening-ok .ensures) ∙ not-false _ (c .before .if3 .left)) (c .slots-ready .ensures)))
     ∙ sym (ready-in (now (a .bytes)) (a .store))

@@ -1,9 +1,10 @@
-use Prim.Native.Nat.{ℕ, _+_, _*_, _-_}
+use Prim.Native.Nat.{ℕ, _+_, _-_}
 use mathlib.Core.Path.{_≡_, ap, _∙_}
 use lib.ListN.{take, drop}
 use denote.Ref.{now}
 use native.Mathlib.Omega.{arith}
 use borrow.Author.Tests.{not-true, not-false}
+use Rattle.record_bytes.specs.Places.{slotLength, slotPlace}
 use Rattle.record_bytes.specs.Layout.{sessionAt}
 use Rattle.lent_record.specs.Judged.{no-codes, no-bounds, no-twin}
 use borrow.Author.Needs.{needs}
@@ -54,8 +55,8 @@ session-ok-requires c κs = search needs
 returns-2 : tie.Need-returns-2
 returns-2 c =
     let a = c .before .before .before .before .before .before .before .before .before .args in
-    let k : ℕ = 9 + 30 * a .i in
-    let e : k + 30 - k ≡ 30 = omega arith in
+    let k : ℕ = slotPlace (a .i) in
+    let e : k + slotLength - k ≡ slotLength = omega arith in
     no-bounds (a .own) (now (a .bytes)) (a .i) (search needs) _ (c .before .before .before .before .before .codes-ok .ensures) (not-false _ (c .before .before .before .before .if1 .left)) _ _
     (c .before .before .session-at .ensures ∙ ap (λ (n : ℕ). sessionAt (take n (drop k (now (a .bytes))))) e) (c .before .session-ok .ensures) (not-true _ (c .if2 .taken))
 
@@ -68,8 +69,8 @@ any-holds-requires c κs = search needs
 returns-3 : tie.Need-returns-3
 returns-3 c =
     let a = c .before .before .before .before .before .before .before .before .before .before .args in
-    let k : ℕ = 9 + 30 * a .i in
-    let e : k + 30 - k ≡ 30 = omega arith in
+    let k : ℕ = slotPlace (a .i) in
+    let e : k + slotLength - k ≡ slotLength = omega arith in
     no-twin (a .own) (now (a .bytes)) (a .i) (search needs) _ (c .before .before .before .before .before .before .codes-ok .ensures) (not-false _ (c .before .before .before .before .before .if1 .left)) _ _
     (c .before .before .before .session-at .ensures ∙ ap (λ (n : ℕ). sessionAt (take n (drop k (now (a .bytes))))) e) (c .before .before .session-ok .ensures) (not-false _ (c .before .if2 .left)) _ (c .any-holds .ensures)
 

@@ -1,4 +1,4 @@
-use Prim.Native.Nat.{ℕ, _+_, _*_}
+use Prim.Native.Nat.{ℕ, _+_}
 use native.Mathlib.Omega.{arith}
 use mathlib.Core.Path.{_≡_, refl, sym, ap, _∙_}
 use mathlib.Core.Logic.{⊎-elim}
@@ -13,6 +13,7 @@ use Rattle.lent_record.proofs.ready.two_ready.Tie as tie
 use Rattle.lent_record.proofs.ready.two_ready.Reads as reads
 use Rattle.lent_record.proofs.ready.two_ready.Lts as lts
 use Rattle.lent_record.proofs.ready.open_ready.Reads as open-ready-reads
+use Rattle.record_bytes.specs.Places.{slotLength, slotPlace}
 
 mul-at : tie.Need-mul-at
 mul-at c = search needs
@@ -36,7 +37,7 @@ shared-slice-read-if3 : tie.Need-shared-slice-read-if3
 shared-slice-read-if3 c = search needs
 
 returns-2 : tie.Need-returns-2
-returns-2 c = let a = c .before .before .before .before .before .args in let w : 9 + 30 * (a .i + 1) ≡ 9 + 30 * a .i + 30 = omega arith in and-next _ _ _ (⊎-elim (λ w. sym (or-next _ _ _ (ne-eqb _ _ (w .0 .taken)) (sym (sym (w .1 .ensures) ∙ not-false _ (w .2 .left))))) (λ w. sym (or-stop _ _ (eq-eqb _ _ (w .left)))) (c .before .before .if1 .came)) (or-stop _ _ (ap (λ (k : ℕ). eqb (getD (now (a .bytes)) k 0) 0) w ∙ eq-eqb _ _ (c .if3 .taken)))
+returns-2 c = let a = c .before .before .before .before .before .args in let w : slotPlace (a .i + 1) ≡ slotPlace (a .i) + slotLength = omega arith in and-next _ _ _ (⊎-elim (λ w. sym (or-next _ _ _ (ne-eqb _ _ (w .0 .taken)) (sym (sym (w .1 .ensures) ∙ not-false _ (w .2 .left))))) (λ w. sym (or-stop _ _ (eq-eqb _ _ (w .left)))) (c .before .before .if1 .came)) (or-stop _ _ (ap (λ (k : ℕ). eqb (getD (now (a .bytes)) k 0) 0) w ∙ eq-eqb _ _ (c .if3 .taken)))
 
 add-open-ready : tie.Need-add-open-ready
 add-open-ready c = search needs
@@ -45,7 +46,7 @@ open-ready-requires-2 : tie.Need-open-ready-requires-2
 open-ready-requires-2 c κs = search needs
 
 returns-3 : tie.Need-returns-3
-returns-3 c = let a = c .before .before .before .before .before .before .args in let w : 9 + 30 * (a .i + 1) ≡ 9 + 30 * a .i + 30 = omega arith in and-next _ _ _ (⊎-elim (λ w. sym (or-next _ _ _ (ne-eqb _ _ (w .0 .taken)) (sym (sym (w .1 .ensures) ∙ not-false _ (w .2 .left))))) (λ w. sym (or-stop _ _ (eq-eqb _ _ (w .left)))) (c .before .before .before .if1 .came)) (or-next _ _ _ (ap (λ (k : ℕ). eqb (getD (now (a .bytes)) k 0) 0) w ∙ ne-eqb _ _ (c .before .if3 .left)) (c .open-ready2 .ensures))
+returns-3 c = let a = c .before .before .before .before .before .before .args in let w : slotPlace (a .i + 1) ≡ slotPlace (a .i) + slotLength = omega arith in and-next _ _ _ (⊎-elim (λ w. sym (or-next _ _ _ (ne-eqb _ _ (w .0 .taken)) (sym (sym (w .1 .ensures) ∙ not-false _ (w .2 .left))))) (λ w. sym (or-stop _ _ (eq-eqb _ _ (w .left)))) (c .before .before .before .if1 .came)) (or-next _ _ _ (ap (λ (k : ℕ). eqb (getD (now (a .bytes)) k 0) 0) w ∙ ne-eqb _ _ (c .before .if3 .left)) (c .open-ready2 .ensures))
 
 pub two-ready-spec : {M : Type 1} → statement M
 two-ready-spec =

@@ -1,4 +1,4 @@
-use Prim.Native.Nat.{_+_, _*_, _-_, _≤_}
+use Prim.Native.Nat.{_-_, _≤_}
 use mathlib.Core.Path.{_≡_, refl, sym, _∙_}
 use lib.ListN.{length, drop}
 use denote.Ref.{now}
@@ -7,6 +7,7 @@ use Rattle.laws.specs.Choice.{or-next, or-stop}
 use Rattle.laws.specs.Turn.{turn, end}
 use Rattle.slots.specs.Slots.{freeSlot}
 use Rattle.slots.specs.Bounds.{anyHolds}
+use Rattle.record_bytes.specs.Places.{recordLength, slotPlace}
 use Rattle.record_bytes.specs.Layout.{slotsAt}
 use Rattle.lent_record.specs.Held.{length-slots, held}
 use borrow.Author.Needs.{needs}
@@ -14,7 +15,7 @@ use Rattle.lent_record.proofs.search.any_holds.Statement.{statement}
 use Rattle.lent_record.proofs.search.any_holds.Tie as tie
 
 abbrev Inv-loop : tie.InvT-loop
-Inv-loop bytes from k j₀ at₀ j at = (length bytes ≡ 249) × (j ≤ 8) × (at ≡ 9 + 30 * j) × (anyHolds k (drop j (slotsAt bytes)) ≡ anyHolds k (drop from (slotsAt bytes)))
+Inv-loop bytes from k j₀ at₀ j at = (length bytes ≡ recordLength) × (j ≤ 8) × (at ≡ slotPlace j) × (anyHolds k (drop j (slotsAt bytes)) ≡ anyHolds k (drop from (slotsAt bytes)))
 
 abbrev μ-loop : tie.MeasureT-loop
 μ-loop bytes from k j₀ at₀ j at = 8 - j

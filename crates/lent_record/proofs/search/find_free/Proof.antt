@@ -6,6 +6,7 @@ use native.Mathlib.Omega.{arith}
 use Rattle.laws.specs.Choice.{then, else}
 use Rattle.laws.specs.Turn.{turn, end}
 use Rattle.slots.specs.Slots.{freeSlot, isFree, firstAt, firstFree}
+use Rattle.record_bytes.specs.Places.{recordLength}
 use Rattle.record_bytes.specs.Layout.{slotsAt}
 use Rattle.lent_record.specs.Held.{length-slots}
 use borrow.Author.Needs.{needs}
@@ -13,7 +14,7 @@ use Rattle.lent_record.proofs.search.find_free.Statement.{statement}
 use Rattle.lent_record.proofs.search.find_free.Tie as tie
 
 abbrev Inv-loop : tie.InvT-loop
-Inv-loop bytes i₀ i = (length bytes ≡ 249) × (i ≤ 8) × (firstAt isFree i (drop i (slotsAt bytes)) ≡ firstFree (slotsAt bytes))
+Inv-loop bytes i₀ i = (length bytes ≡ recordLength) × (i ≤ 8) × (firstAt isFree i (drop i (slotsAt bytes)) ≡ firstFree (slotsAt bytes))
 
 abbrev μ-loop : tie.MeasureT-loop
 μ-loop bytes i₀ i = 8 - i

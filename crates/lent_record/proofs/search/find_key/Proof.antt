@@ -6,6 +6,7 @@ use native.Mathlib.Omega.{arith}
 use Rattle.laws.specs.Choice.{then, else}
 use Rattle.laws.specs.Turn.{turn, end}
 use Rattle.slots.specs.Slots.{freeSlot, holdsKey, firstAt, keyPlace}
+use Rattle.record_bytes.specs.Places.{recordLength}
 use Rattle.record_bytes.specs.Layout.{slotsAt}
 use Rattle.lent_record.specs.Held.{length-slots, held}
 use borrow.Author.Needs.{needs}
@@ -13,7 +14,7 @@ use Rattle.lent_record.proofs.search.find_key.Statement.{statement}
 use Rattle.lent_record.proofs.search.find_key.Tie as tie
 
 abbrev Inv-loop : tie.InvT-loop
-Inv-loop bytes k i₀ i = (length bytes ≡ 249) × (i ≤ 8) × (firstAt (holdsKey k) i (drop i (slotsAt bytes)) ≡ keyPlace k (slotsAt bytes))
+Inv-loop bytes k i₀ i = (length bytes ≡ recordLength) × (i ≤ 8) × (firstAt (holdsKey k) i (drop i (slotsAt bytes)) ≡ keyPlace k (slotsAt bytes))
 
 abbrev μ-loop : tie.MeasureT-loop
 μ-loop bytes k i₀ i = 8 - i

@@ -1,5 +1,5 @@
 use borrow.Author.Tests.{eq-eqb, ne-eqb}
-use Rattle.lent_record.specs.Held.{no-first, no-second, both-hold}
+use Rattle.laws.specs.Bools.{no-first, no-second, both-hold}
 use borrow.Author.Needs.{needs}
 use Rattle.lent_record.proofs.search.holds_key.Statement.{statement}
 use Rattle.lent_record.proofs.search.holds_key.Tie as tie

@@ -1,9 +1,10 @@
-use Prim.Native.Nat.{ℕ, _+_, _-_, _*_}
+use Prim.Native.Nat.{ℕ, _+_, _-_}
 use native.Mathlib.Omega.{arith}
 use mathlib.Core.Path.{_≡_, refl, sym, ap, _∙_}
 use mathlib.Core.List.{List, []}
 use lib.ListN.{take, drop}
 use denote.Ref.{now}
+use Rattle.record_bytes.specs.Places.{slotLength, slotPlace}
 use Rattle.record_bytes.specs.Layout.{slotAt}
 use Rattle.record_bytes.specs.Pieces.{piece-of}
 use Rattle.lent_record.specs.Held.{slot-of}
@@ -36,7 +37,7 @@ slot-at-requires : tie.Need-slot-at-requires
 slot-at-requires c κs = search needs
 
 returns : tie.Need-returns
-returns c = let b = now (c .before .before .before .args .bytes) in let i : ℕ = c .before .before .before .args .i in let k : ℕ = 9 + 30 * i in let e : k + 30 - k ≡ 30 = omega arith in c .slot-at .ensures ∙ ap (λ (n : ℕ). slotAt (take n (drop k b))) e ∙ ap slotAt (sym (piece-of b i (c .before .before .before .pre .1))) ∙ sym (slot-of b i)
+returns c = let b = now (c .before .before .before .args .bytes) in let i : ℕ = c .before .before .before .args .i in let k : ℕ = slotPlace i in let e : k + slotLength - k ≡ slotLength = omega arith in c .slot-at .ensures ∙ ap (λ (n : ℕ). slotAt (take n (drop k b))) e ∙ ap slotAt (sym (piece-of b i (c .before .before .before .pre .1))) ∙ sym (slot-of b i)
 
 pub slot-in-spec : {M : Type 1} → statement M
 slot-in-spec =

@@ -2,13 +2,13 @@ use borrow.Author.Needs.{needs}
 use mathlib.Core.Path.{_≡_, refl, sym, _∙_}
 use Rattle.laws.specs.Choice.{then, else}
 use Rattle.receiver.specs.Bounds.{opened}
-use Rattle.receiver.specs.declared.answer.Opened.{Opened}
-use Rattle.receiver.specs.declared.answer.Opening.{Opening}
+use Rattle.receiver.specs.declared.Opened.{Opened}
+use Rattle.answer.specs.declared.Acceptance.{Acceptance}
 use Rattle.receiver.specs.declared.Receiver.{Receiver}
 use Rattle.receiver.proofs.Receiver.open.Statement.{statement}
 use Rattle.receiver.proofs.Receiver.open.Tie as tie
 
-answering : (r : Receiver) (a b : Opening) → a ≡ b → _≡_ {A = Opened} (record { receiver = r; answer = a }) (record { receiver = r; answer = b })
+answering : (r : Receiver) (a b : Acceptance) → a ≡ b → _≡_ {A = Opened} (record { receiver = r; answer = a }) (record { receiver = r; answer = b })
 answering r a b e = rw e
 
 opening-ok-requires : tie.Need-opening-ok-requires

@@ -5,6 +5,7 @@ use borrow.Author.Tests.{eq-eqb, ne-eqb, not-true, not-false}
 use lib.Dec.{eqb}
 use lib.ListN.{length}
 use denote.Ref.{now}
+use Rattle.record_bytes.specs.Places.{recordLength}
 use Rattle.record_bytes.specs.Layout.{storedIn}
 use Rattle.record_bytes.proofs.Slots.{record-stored}
 use borrow.Author.Needs.{needs}
@@ -12,13 +13,12 @@ use Rattle.record_bytes.proofs.layout.write_record.Statement.{statement
 use Rattle.record_bytes.proofs.layout.write_record.Tie as tie
 use Rattle.record_bytes.proofs.layout.write_record.Reads as reads
 use Rattle.record_bytes.proofs.layout.write_record.Lts as lts
-use Rattle.record_bytes.proofs.layout.copy.Reads as copy-reads
 use Rattle.record_bytes.proofs.layout.head_bytes.Reads as head-bytes-reads
 use Rattle.record_bytes.proofs.layout.write_slots.Reads as write-slots-reads
 
 returns : tie.Need-returns
 unfolding storedIn
-returns c = then (not (eqb (length (now (c .before .before .args .out))) 249)) _ _ _ (ap not (ne-eqb _ _ (c .if1 .taken))) refl
+returns c = then (not (eqb (length (now (c .before .before .args .out))) recordLength)) _ _ _ (ap not (ne-eqb _ _ (c .if1 .taken))) refl
 
 head-bytes-requires : tie.Need-head-bytes-requires
 head-bytes-requires c κs = search needs

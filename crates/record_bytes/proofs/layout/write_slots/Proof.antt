@@ -1,9 +1,10 @@
-use Prim.Native.Nat.{ℕ, _+_, _-_, _*_, _<_, _≤_}
+use Prim.Native.Nat.{ℕ, _-_, _<_, _≤_}
 use mathlib.Core.Path.{_≡_, refl, sym, ap, _∙_}
 use mathlib.Core.List.{List, _++_}
 use lib.ListN.{length, take, drop}
 use denote.Ref.{now}
 use native.Mathlib.Omega.{arith}
+use Rattle.record_bytes.specs.Places.{recordLength, slotPlace}
 use Rattle.record_bytes.specs.Layout.{slotsBytes, written}
 use Rattle.record_bytes.proofs.Slots.{slots-turn, slots-long, slots-all}
 use borrow.Author.Needs.{needs}
@@ -11,11 +12,10 @@ use Rattle.record_bytes.proofs.layout.write_slots.Statement.{statement}
 use Rattle.record_bytes.proofs.layout.write_slots.Tie as tie
 use Rattle.record_bytes.proofs.layout.write_slots.Reads as reads
 use Rattle.record_bytes.proofs.layout.write_slots.Lts as lts
-use Rattle.record_bytes.proofs.layout.copy.Reads as copy-reads
 use Rattle.record_bytes.proofs.slot.slot_bytes.Reads as slot-bytes-reads
 
 abbrev Inv-loop : tie.InvT-loop
-Inv-loop out₀ slots i₀ out i = (length slots ≡ 8) × (length out₀ ≡ 249) × (length out ≡ 249) × (i ≤ 8) × (take (9 + 30 * i) out ++ slotsBytes (drop i slots) ≡ written slots out₀)
+Inv-loop out₀ slots i₀ out i = (length slots ≡ 8) × (length out₀ ≡ recordLength) × (length out ≡ recordLength) × (i ≤ 8) × (take (slotPlace i) out ++ slotsBytes (drop i slots) ≡ written slots out₀)
 
 abbrev μ-loop : tie.MeasureT-loop
 μ-loop out₀ slots i₀ out i = 8 - i

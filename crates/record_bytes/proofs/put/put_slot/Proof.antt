@@ -1,15 +1,14 @@
 use mathlib.Core.Path.{_≡_, refl, sym, ap, _∙_}
-use Prim.Native.Nat.{_+_, _*_}
 use lib.Seq.{paste}
 use mathlib.Core.List.{List}
 use Prim.Native.Nat.{ℕ}
 use denote.Ref.{now}
 use borrow.Author.Needs.{needs}
+use Rattle.record_bytes.specs.Places.{slotLength, slotPlace}
 use Rattle.record_bytes.proofs.put.put_slot.Statement.{statement}
 use Rattle.record_bytes.proofs.put.put_slot.Tie as tie
 use Rattle.record_bytes.proofs.put.put_slot.Reads as reads
 use Rattle.record_bytes.proofs.put.put_slot.Lts as lts
-use Rattle.record_bytes.proofs.layout.copy.Reads as copy-reads
 use Rattle.record_bytes.proofs.slot.slot_bytes.Reads as slot-bytes-reads
 
 slot-bytes-requires : tie.Need-slot-bytes-requires
@@ -31,7 +30,7 @@ same-length : tie.Need-same-length
 same-length c = search needs
 
 returns : tie.Need-returns
-returns c = c .before .before .copy .ensures ∙ ap (λ (l : List ℕ). paste (now (c .before .before .before .before .before .before .before .args .out)) (9 + 30 * c .before .before .before .before .before .before .before .args .i) l 30) (c .before .before .before .before .before .slot-bytes .ensures)
+returns c = c .before .before .copy .ensures ∙ ap (λ (l : List ℕ). paste (now (c .before .before .before .before .before .before .before .args .out)) (slotPlace (c .before .before .before .before .before .before .before .args .i)) l slotLength) (c .before .before .before .before .before .slot-bytes .ensures)
 
 pub put-slot-spec : {M : Type 1} → statement M
 put-slot-spec =

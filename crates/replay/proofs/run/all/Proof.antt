@@ -4,16 +4,12 @@ use lib.ListN.{length}
 use native.Mathlib.Omega.{arith}
 use Rattle.replay.proofs.run.all.Statement.{statement}
 use Rattle.replay.proofs.run.all.Tie as tie
-use Rattle.replay.proofs.run.all.Reads as reads
-use Rattle.replay.proofs.run.all.Lts as lts
-use Rattle.replay.proofs.output.flush.Reads as flush-reads
-use Rattle.replay.proofs.run.turn.Reads as turn-reads
 
 abbrev Inv-loop : tie.InvT-loop
-Inv-loop window₀ store₀ lines₀ r₀ turns₀ window store lines r turns = (length window ≡ length window₀) × (length store ≡ length store₀) × (length lines ≡ length lines₀)
+Inv-loop window₀ receiver₀ store₀ lines₀ r₀ turns₀ window receiver store lines r turns = (length window ≡ length window₀) × (length receiver ≡ length receiver₀) × (length store ≡ length store₀) × (length lines ≡ length lines₀)
 
 abbrev μ-loop : tie.MeasureT-loop
-μ-loop window₀ store₀ lines₀ r₀ turns₀ window store lines r turns = turns
+μ-loop window₀ receiver₀ store₀ lines₀ r₀ turns₀ window receiver store lines r turns = turns
 
 loop-holds : tie.Need-loop-holds Inv-loop μ-loop
 loop-holds c = search needs
@@ -42,6 +38,9 @@ same-length-2 c = search needs
 same-length-3 : tie.Need-same-length-3 Inv-loop μ-loop
 same-length-3 c = search needs
 
+same-length-4 : tie.Need-same-length-4 Inv-loop μ-loop
+same-length-4 c = search needs
+
 returns : tie.Need-returns Inv-loop μ-loop
 returns c = search needs
 
@@ -60,4 +59,5 @@ all-spec =
     same-length
     same-length-2
     same-length-3
+    same-length-4
     returns)

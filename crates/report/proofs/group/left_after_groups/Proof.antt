@@ -7,16 +7,13 @@ use Rattle.report.proofs.group.left_after_groups.Statement.{statement}
 use Rattle.report.proofs.group.left_after_groups.Tie as tie
 
 abbrev Inv-loop : tie.InvT-loop
-Inv-loop room id frame at₀ left₀ at left = Counting frame id room at left
+Inv-loop room route frame first at₀ left₀ at left = Counting frame route room at left
 
 abbrev μ-loop : tie.MeasureT-loop
-μ-loop room id frame at₀ left₀ at left = length frame - at
-
-start-of-requires : tie.Need-start-of-requires Inv-loop μ-loop
-start-of-requires c κs = search needs
+μ-loop room route frame first at₀ left₀ at left = length frame - at
 
 loop-holds : tie.Need-loop-holds Inv-loop μ-loop
-loop-holds c = counting-start _ _ _ _ (c .start-of .ensures)
+loop-holds c = counting-start _ _ _ _ (c .before .pre)
 
 group-at-requires : tie.Need-group-at-requires Inv-loop μ-loop
 group-at-requires c κs = search needs
@@ -42,11 +39,14 @@ enum-told-2 c = search needs
 returns-2 : tie.Need-returns-2 Inv-loop μ-loop
 returns-2 c = counting-cut _ _ _ _ _ (c .before .before .before .before .before .before .before .loop .inv) _ _ (sym (c .before .before .before .before .before .before .group-at .ensures) ∙ c .before .before .before .before .group .given .1) (sym (c .before .before .left-after-group .ensures) ∙ c .enum-told2 .given .1)
 
+place-after-requires : tie.Need-place-after-requires Inv-loop μ-loop
+place-after-requires c κs = search needs
+
 loop-less : tie.Need-loop-less Inv-loop μ-loop
-loop-less c = nearer (c .before .before .before .before .before .before .before .before .before .before .before .args .frame .now) (c .before .before .before .before .before .before .before .before .loop .at) _ _ (sym (c .before .before .before .before .before .before .before .group-at .ensures) ∙ c .before .before .before .before .before .group .given .1)
+loop-less c = nearer (c .before .before .before .before .before .before .before .before .before .before .before .args .frame .now) (c .before .before .before .before .before .before .before .before .before .loop .at) _ _ (sym (c .before .before .before .before .before .before .before .before .group-at .ensures) ∙ c .before .before .before .before .before .before .group .given .1) _ (c .place-after .ensures)
 
 loop-again : tie.Need-loop-again Inv-loop μ-loop
-loop-again c = counting-on _ _ _ _ _ (c .before .before .before .before .before .before .before .before .loop .inv) _ _ (sym (c .before .before .before .before .before .before .before .group-at .ensures) ∙ c .before .before .before .before .before .group .given .1) _ (sym (c .before .before .before .left-after-group .ensures) ∙ c .before .behind .given .1)
+loop-again c = counting-on _ _ _ _ _ (c .before .before .before .before .before .before .before .before .before .loop .inv) _ _ (sym (c .before .before .before .before .before .before .before .before .group-at .ensures) ∙ c .before .before .before .before .before .before .group .given .1) _ (sym (c .before .before .before .before .left-after-group .ensures) ∙ c .before .before .behind .given .1) _ (c .place-after .ensures)
 
 pub left-after-groups-spec : {M : Type 1} → statement M
 left-after-groups-spec =
@@ -54,7 +54,6 @@ left-after-groups-spec =
     (tie.spec
     Inv-loop
     μ-loop
-    start-of-requires
     loop-holds
     group-at-requires
     enum-told
@@ -64,5 +63,6 @@ left-after-groups-spec =
     enum-known-behind
     enum-told-2
     returns-2
+    place-after-requires
     loop-less
     loop-again)

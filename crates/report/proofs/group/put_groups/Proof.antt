@@ -7,16 +7,13 @@ use Rattle.report.proofs.group.put_groups.Statement.{statement}
 use Rattle.report.proofs.group.put_groups.Tie as tie
 
 abbrev Inv-loop : tie.InvT-loop
-Inv-loop out₀ at id frame place₀ next₀ out place next = Printing out₀ at frame id out place next
+Inv-loop out₀ at route frame first place₀ next₀ out place next = Printing out₀ at frame route out place next
 
 abbrev μ-loop : tie.MeasureT-loop
-μ-loop out₀ at id frame place₀ next₀ out place next = length frame - place
-
-start-of-requires : tie.Need-start-of-requires Inv-loop μ-loop
-start-of-requires c κs = search needs
+μ-loop out₀ at route frame first place₀ next₀ out place next = length frame - place
 
 loop-holds : tie.Need-loop-holds Inv-loop μ-loop
-loop-holds c = printing-start _ _ _ _ _ (c .start-of .ensures)
+loop-holds c = printing-start _ _ _ _ _ (c .before .before .pre .0)
 
 group-at-requires : tie.Need-group-at-requires Inv-loop μ-loop
 group-at-requires c κs = search needs
@@ -34,13 +31,16 @@ enum-known-group : tie.Need-enum-known-group Inv-loop μ-loop
 enum-known-group c = search needs
 
 put-group-requires : tie.Need-put-group-requires Inv-loop μ-loop
-put-group-requires c κs = printing-room _ _ _ _ _ _ _ (c .before .before .before .before .before .loop .inv) (c .before .before .before .before .before .before .before .before .before .pre) _ _ (sym (c .before .before .before .before .group-at .ensures) ∙ c .before .before .group .given .1)
+put-group-requires c κs = printing-room _ _ _ _ _ _ _ (c .before .before .before .before .before .loop .inv) (c .before .before .before .before .before .before .before .before .pre .1) _ _ (sym (c .before .before .before .before .group-at .ensures) ∙ c .before .before .group .given .1)
+
+place-after-requires : tie.Need-place-after-requires Inv-loop μ-loop
+place-after-requires c κs = search needs
 
 loop-less : tie.Need-loop-less Inv-loop μ-loop
-loop-less c = nearer (c .before .before .before .before .before .before .before .before .before .before .before .before .args .frame .now) (c .before .before .before .before .before .before .before .before .loop .place) _ _ (sym (c .before .before .before .before .before .before .before .group-at .ensures) ∙ c .before .before .before .before .before .group .given .1)
+loop-less c = nearer (c .before .before .before .before .before .before .before .before .before .before .before .before .args .frame .now) (c .before .before .before .before .before .before .before .before .before .loop .place) _ _ (sym (c .before .before .before .before .before .before .before .before .group-at .ensures) ∙ c .before .before .before .before .before .before .group .given .1) _ (c .place-after .ensures)
 
 loop-again : tie.Need-loop-again Inv-loop μ-loop
-loop-again c = printing-on _ _ _ _ _ _ _ (c .before .before .before .before .before .before .before .before .loop .inv) (c .before .before .before .before .before .before .before .before .before .before .before .before .pre) _ _ (sym (c .before .before .before .before .before .before .before .group-at .ensures) ∙ c .before .before .before .before .before .group .given .1) _ _ (c .before .before .put-group .ensures)
+loop-again c = printing-on _ _ _ _ _ _ _ (c .before .before .before .before .before .before .before .before .before .loop .inv) (c .before .before .before .before .before .before .before .before .before .before .before .before .pre .1) _ _ (sym (c .before .before .before .before .before .before .before .before .group-at .ensures) ∙ c .before .before .before .before .before .before .group .given .1) _ _ (c .before .before .before .put-group .ensures) _ (c .place-after .ensures)
 
 pub put-groups-spec : {M : Type 1} → statement M
 put-groups-spec =
@@ -48,7 +48,6 @@ put-groups-spec =
     (tie.spec
     Inv-loop
     μ-loop
-    start-of-requires
     loop-holds
     group-at-requires
     enum-told
@@ -56,5 +55,6 @@ put-groups-spec =
     returns
     enum-known-group
     put-group-requires
+    place-after-requires
     loop-less
     loop-again)

@@ -1,6 +1,6 @@
 use mathlib.Core.Path.{sym, ap, _∙_}
 use lib.ListN.{length}
-use Rattle.receiver.specs.declared.answer.End.{End}
+use Rattle.answer.specs.declared.End.{End}
 use Rattle.report.specs.Lines.{endLines}
 use Rattle.text.specs.Line.{leftBy, left-none}
 use borrow.Author.Needs.{needs}

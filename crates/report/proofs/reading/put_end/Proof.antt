@@ -2,7 +2,7 @@ use Prim.Native.Nat.{_+_, _≤_}
 use native.Mathlib.Omega.{arith}
 use mathlib.Core.Path.{sym, subst}
 use lib.ListN.{length}
-use Rattle.receiver.specs.declared.answer.End.{End}
+use Rattle.answer.specs.declared.End.{End}
 use Rattle.report.specs.Lines.{endLines}
 use Rattle.text.specs.Put.{PutAt, put-nil}
 use borrow.Author.Needs.{needs}

@@ -1,5 +1,5 @@
 use mathlib.Core.Path.{ap}
-use Rattle.receiver.specs.declared.answer.Kept.{Kept}
+use Rattle.answer.specs.declared.Acceptance.{Acceptance}
 use Rattle.text.specs.Line.{placed-by}
 use Rattle.report.specs.Lines.{readingLines}
 use borrow.Author.Needs.{needs}
@@ -22,13 +22,13 @@ same-length : tie.Need-same-length
 same-length c = search needs
 
 returns : tie.Need-returns
-returns c = placed-by (ap (λ (k : Kept). readingLines k (c .before .before .before .before .before .before .before .args .ends)) (c .before .before .before .before .enum-told .given .1)) (c .before .before .write-ends .ensures)
+returns c = placed-by (ap (λ (k : Acceptance). readingLines k (c .before .before .before .before .before .before .before .args .ends)) (c .before .before .before .before .enum-told .given .1)) (c .before .before .write-ends .ensures)
 
 same-length-2 : tie.Need-same-length-2
 same-length-2 c = search needs
 
 returns-2 : tie.Need-returns-2
-returns-2 c = placed-by (ap (λ (k : Kept). readingLines k (c .before .before .before .before .before .before .before .before .args .ends)) (c .before .before .before .before .before .answer .given .1)) (c .before .before .write-refused .ensures)
+returns-2 c = placed-by (ap (λ (k : Acceptance). readingLines k (c .before .before .before .before .before .before .before .before .args .ends)) (c .before .before .before .before .before .answer .given .1)) (c .before .before .write-refused .ensures)
 
 pub write-reading-spec : {M : Type 1} → statement M
 write-reading-spec =

@@ -3,7 +3,7 @@ use mathlib.Core.List.{[], _++_}
 use Rattle.text.specs.Line.{placed-by}
 use mathlib.Core.Bool.{cond}
 use Rattle.transport.specs.declared.Kind.{Kind}
-use Rattle.session.specs.Announcements.{isRts}
+use Rattle.transport.specs.Kinds.{isRts}
 use Rattle.session_lines.specs.Lines.{sessionLine, messageLine, eomaWord}
 use borrow.Author.Needs.{needs}
 use Rattle.session_lines.proofs.message.write_handed_over.Statement.{statement}

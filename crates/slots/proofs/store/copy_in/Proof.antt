@@ -1,13 +1,12 @@
 use native.Mathlib.Omega.{arith}
 use lib.ListN.{drop, replicate, length-drop}
 use denote.Ref.{now}
-use Rattle.slots.proofs.Copies.{copied-twice}
+use Rattle.laws.specs.Pastes.{copied-twice}
 use borrow.Author.Needs.{needs}
 use Rattle.slots.proofs.store.copy_in.Statement.{statement}
 use Rattle.slots.proofs.store.copy_in.Tie as tie
 use Rattle.slots.proofs.store.copy_in.Reads as reads
 use Rattle.slots.proofs.store.copy_in.Lts as lts
-use Rattle.slots.proofs.store.copy.Reads as copy-reads
 
 slice-aggregate-copy : tie.Need-slice-aggregate-copy
 slice-aggregate-copy c = search needs

@@ -1,3 +1,4 @@
+use native.Mathlib.Omega.{arith}
 use mathlib.Core.Path.{refl, ap}
 use borrow.Author.Tests.{lt-ltb, le-ltb}
 use Rattle.laws.specs.Choice.{then, else}
@@ -12,7 +13,7 @@ use Rattle.frame.proofs.octet.low24_at.Reads as low24-at-reads
 
 returns : tie.Need-returns
 unfolding dataFrameOf
-returns c = then _ _ _ _ (lt-ltb _ _ (c .if1 .taken)) refl
+returns c = (then _ _ _ _ (lt-ltb _ _ (c .if1 .taken)) refl, tt)
 
 shared-slice-read-t6 : tie.Need-shared-slice-read-t6
 shared-slice-read-t6 c = search needs
@@ -25,7 +26,7 @@ sub-t10 c = search needs
 
 returns-2 : tie.Need-returns-2
 unfolding dataFrameOf
-returns-2 c = else _ _ _ _ (le-ltb _ _ (c .before .before .if1 .left)) (ap Segment (cc))
+returns-2 c = (else _ _ _ _ (le-ltb _ _ (c .before .before .if1 .left)) (ap Segment (cc)), (omega arith, omega arith))
 
 pub read-segment-spec : {M : Type 1} → statement M
 read-segment-spec =

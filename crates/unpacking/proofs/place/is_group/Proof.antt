@@ -1,7 +1,8 @@
 use Prim.Native.Nat.{ℕ, _+_, _/_, _%_, _≤_, _<_}
 use native.Mathlib.Omega.{arith}
 use mathlib.Core.Path.{_≡_, refl, sym, ap, _∙_}
-use mathlib.Core.Bool.{Bool, true, false, not, _||_, false≢true}
+use mathlib.Core.Bool.{Bool, true, false, _||_, false≢true}
+use mathlib.Mathlib.Data.Bool.Basic.{or-inr}
 use mathlib.Core.Logic.{⊎-elim}
 use mathlib.Core.List.{List}
 use lib.Dec.{eqb, leb}
@@ -17,10 +18,6 @@ use Rattle.unpacking.proofs.place.is_group.Tie as tie
 use Rattle.unpacking.proofs.place.is_group.Reads as reads
 use Rattle.unpacking.proofs.place.is_group.Lts as lts
 use Rattle.frame.proofs.octet.wide.Reads as wide-reads
-
-or-last : (a b : Bool) → b ≡ true → (a || b) ≡ true
-or-last true b e = refl
-or-last false b e = e
 
 module _ (d : List ℕ) (at : ℕ) (second : getD d (at + 1) 0 < 256) (third : getD d (at + 2) 0 < 256) where
   -- the low byte's rule, by the PGN's bytes
@@ -88,7 +85,7 @@ add-result : tie.Need-add-result
 add-result c = search needs
 
 returns-4 : tie.Need-returns-4
-returns-4 c = by-data (c .before .before .before .before .before .before .before .before .args .frame .now) (c .before .before .before .before .before .before .before .before .args .at) (omega (arith, c .before .before .before .shared-slice-known3 .given (c .before .before .before .before .before .before .before .before .args .at + 1))) (omega (arith, c .before .before .before .shared-slice-known3 .given (c .before .before .before .before .before .before .before .before .args .at + 2))) (c .wide .result) (c .wide .ensures .0) (c .before .before .before .before .before .before .if1 .left) (c .before .before .before .before .if2 .left) (⊎-elim (λ w. or-last (leb 240 (getD (c .before .before .before .before .before .before .before .before .args .frame .now) (c .before .before .before .before .before .before .before .before .args .at + 1) 0)) _ (eq-eqb _ _ (w .2 .left))) (λ w. sym (or-stop _ _ (le-leb _ _ (w .left)))) (c .before .before .if3 .came))
+returns-4 c = by-data (c .before .before .before .before .before .before .before .before .args .frame .now) (c .before .before .before .before .before .before .before .before .args .at) (omega (arith, c .before .before .before .shared-slice-known3 .given (c .before .before .before .before .before .before .before .before .args .at + 1))) (omega (arith, c .before .before .before .shared-slice-known3 .given (c .before .before .before .before .before .before .before .before .args .at + 2))) (c .wide .result) (c .wide .ensures .0) (c .before .before .before .before .before .before .if1 .left) (c .before .before .before .before .if2 .left) (⊎-elim (λ w. or-inr (leb 240 (getD (c .before .before .before .before .before .before .before .before .args .frame .now) (c .before .before .before .before .before .before .before .before .args .at + 1) 0)) _ (eq-eqb _ _ (w .2 .left))) (λ w. sym (or-stop _ _ (le-leb _ _ (w .left)))) (c .before .before .if3 .came))
 
 pub is-group-spec : {M : Type 1} → statement M
 is-group-spec =

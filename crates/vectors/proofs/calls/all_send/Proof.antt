@@ -1,20 +1,15 @@
-use borrow.Author.Needs.{needs}
 use Prim.Native.Nat.{_≤_, _-_}
-use mathlib.Core.Path.{_≡_, refl, _∙_}
-use lib.ListN.{length, length-set}
-use native.Mathlib.Omega.{arith}
+use mathlib.Core.Path.{_≡_}
+use lib.ListN.{length}
+use borrow.Author.Needs.{needs}
 use Rattle.vectors.proofs.calls.all_send.Statement.{statement}
 use Rattle.vectors.proofs.calls.all_send.Tie as tie
-use Rattle.vectors.proofs.calls.all_send.Reads as reads
-use Rattle.vectors.proofs.calls.all_send.Lts as lts
-use Rattle.vectors.proofs.calls.send_segment.Reads as send-segment-reads
-use Rattle.vectors.proofs.calls.sender.Reads as sender-reads
 
 abbrev Inv-loop : tie.InvT-loop
-Inv-loop n store₀ next₀ sa₀ store next sa = (sa ≤ 10) × (length store ≡ length store₀)
+Inv-loop receiver₀ n store₀ sa₀ receiver store sa = (sa ≤ 10) × (length receiver ≡ length receiver₀) × (length store ≡ length store₀)
 
 abbrev μ-loop : tie.MeasureT-loop
-μ-loop n store₀ next₀ sa₀ store next sa = 10 - sa
+μ-loop receiver₀ n store₀ sa₀ receiver store sa = 10 - sa
 
 loop-holds : tie.Need-loop-holds Inv-loop μ-loop
 loop-holds c = search needs
@@ -37,6 +32,9 @@ loop-again c = search needs
 same-length : tie.Need-same-length Inv-loop μ-loop
 same-length c = search needs
 
+same-length-2 : tie.Need-same-length-2 Inv-loop μ-loop
+same-length-2 c = search needs
+
 returns : tie.Need-returns Inv-loop μ-loop
 returns c = search needs
 
@@ -53,4 +51,5 @@ all-send-spec =
     loop-less
     loop-again
     same-length
+    same-length-2
     returns)

@@ -1,21 +1,15 @@
-use borrow.Author.Needs.{needs}
 use Prim.Native.Nat.{_≤_, _-_}
-use mathlib.Core.Path.{_≡_, refl, _∙_}
-use lib.ListN.{length, length-set}
-use native.Mathlib.Omega.{arith}
+use mathlib.Core.Path.{_≡_}
+use lib.ListN.{length}
+use borrow.Author.Needs.{needs}
 use Rattle.vectors.proofs.calls.whole.Statement.{statement}
 use Rattle.vectors.proofs.calls.whole.Tie as tie
-use Rattle.vectors.proofs.calls.whole.Reads as reads
-use Rattle.vectors.proofs.calls.whole.Lts as lts
-use Rattle.vectors.proofs.calls.announce.Reads as announce-reads
-use Rattle.vectors.proofs.calls.finish.Reads as finish-reads
-use Rattle.vectors.proofs.calls.send_segment.Reads as send-segment-reads
 
 abbrev Inv-loop : tie.InvT-loop
-Inv-loop t store₀ next₀ n₀ store next n = (n ≤ t .segments) × (length store ≡ length store₀)
+Inv-loop receiver₀ t store₀ n₀ receiver store n = (n ≤ t .segments) × (length receiver ≡ length receiver₀) × (length store ≡ length store₀)
 
 abbrev μ-loop : tie.MeasureT-loop
-μ-loop t store₀ next₀ n₀ store next n = t .segments - n
+μ-loop receiver₀ t store₀ n₀ receiver store n = t .segments - n
 
 announce-requires : tie.Need-announce-requires Inv-loop μ-loop
 announce-requires c κs = search needs
@@ -41,6 +35,9 @@ finish-requires c κs = search needs
 same-length : tie.Need-same-length Inv-loop μ-loop
 same-length c = search needs
 
+same-length-2 : tie.Need-same-length-2 Inv-loop μ-loop
+same-length-2 c = search needs
+
 returns : tie.Need-returns Inv-loop μ-loop
 returns c = search needs
 
@@ -58,4 +55,5 @@ whole-spec =
     loop-again
     finish-requires
     same-length
+    same-length-2
     returns)

@@ -1,0 +1,5 @@
+pub mod Cases
+pub mod Writes
+pub mod Steps
+pub mod Frames
+pub mod Elapses

@@ -1,0 +1,3 @@
+pub mod InBytes
+pub mod Placed
+pub mod Elapsing
