@@ -7,7 +7,7 @@
 #include <stdio.h>
 #include <string.h>
 
-enum { OWN = 33, SENDER = 128, SESSION = 3, SLOT_BYTES = 4096, SEGMENT_BYTES = 60, UNTOUCHED = 0x5A };
+enum { OWN = 33, SENDER = 128, SESSION = 3, SEGMENT_BYTES = 60, UNTOUCHED = 0x5A };
 
 static const uint32_t control_id = 0x1C4D0000 | OWN << 8 | SENDER;
 static const uint32_t data_id = 0x1C4E0000 | OWN << 8 | SENDER;
@@ -15,7 +15,7 @@ static const uint32_t data_id = 0x1C4E0000 | OWN << 8 | SENDER;
 static uint8_t record[DWB_RECORD_BYTES];
 static uint8_t store[DWB_STORE_BYTES];
 static uint8_t answer[DWB_ANSWER_BYTES];
-static uint8_t out[SLOT_BYTES];
+static uint8_t out[DWB_SLOT_BYTES];
 static int faults;
 
 static void expect(int holds, const char *what)
@@ -37,13 +37,13 @@ static void put24(uint8_t *place, size_t number)
 static int take(uint32_t id, const uint8_t *bytes, size_t length)
 {
     dwb_frame(record, sizeof record, id, bytes, length, store, sizeof store, answer, sizeof answer);
-    if (answer[19]) {
+    if (answer[DWB_AT_SENDS]) {
         printf("  to send:");
-        for (int i = 24; i < 36; i++)
+        for (int i = DWB_AT_DATA; i < DWB_AT_DATA + DWB_DATA_BYTES; i++)
             printf(" %02X", answer[i]);
         printf("\n");
     }
-    return answer[1];
+    return answer[DWB_AT_CODE];
 }
 
 /* An RTS (control 0) or its EOMS (control 2) for PGN 65226; byte 8 is MAX SGMTS in the one, reserved in the other. */
@@ -78,7 +78,7 @@ static void transfer(const uint8_t *message, size_t total)
         expect(code == DWB_TAKEN || code == DWB_GRANT, "the segment is taken");
     }
     expect(take_control(2, total) == DWB_HANDED_OVER, "the message is handed over");
-    expect(answer[6] == 0, "it stands in slot 0");
+    expect(answer[DWB_AT_SLOT] == 0, "it is in slot 0");
 
     memset(out, UNTOUCHED, sizeof out);
     size_t length = dwb_message(answer, sizeof answer, store, sizeof store, out, sizeof out);
@@ -124,16 +124,18 @@ static void two_groups(void)
     expect(count == 2, "two groups come back");
     const uint8_t *next = data;
     for (size_t i = 0; i < 2 && count == 2; i++) {
-        const uint32_t *g = groups + 3 * i;
-        expect(g[0] == pgns[i] && g[2] == lengths[i], "PGN and length are as packed");
-        expect(memcmp(frame + g[1], next, lengths[i]) == 0, "the data is as packed");
+        const uint32_t *g = groups + DWB_GROUP_WORDS * i;
+        expect(g[DWB_GROUP_PGN] == pgns[i] && g[DWB_GROUP_LENGTH] == lengths[i], "PGN and length are as packed");
+        expect(memcmp(frame + g[DWB_GROUP_START], next, lengths[i]) == 0, "the data is as packed");
         next += lengths[i];
-        printf("  pgn %lu, %lu bytes from byte %lu\n", (unsigned long)g[0], (unsigned long)g[2], (unsigned long)g[1]);
+        printf("  pgn %lu, %lu bytes from byte %lu\n", (unsigned long)g[DWB_GROUP_PGN],
+               (unsigned long)g[DWB_GROUP_LENGTH], (unsigned long)g[DWB_GROUP_START]);
     }
 }
 
 int main(void)
 {
+    expect(dwb_version() == DWB_VERSION, "the archive is the header's");
     expect(dwb_open(record, sizeof record, OWN, 1250, 0) == 0, "the receiver opens");
     two_messages();
     two_groups();

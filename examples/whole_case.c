@@ -19,18 +19,18 @@ static unsigned long number_at(const uint8_t *place)
     return place[0] | (unsigned long)place[1] << 8 | (unsigned long)place[2] << 16 | (unsigned long)place[3] << 24;
 }
 
-/* Byte 19 of an answer says whether a frame is to go out. A controller would now send it: identifier from byte 20, data from 24. */
+/* A controller would now send the control frame that the answer holds where it says so: identifier, then data. */
 static void print_answer(const uint8_t *a)
 {
-    switch (a[1]) {
+    switch (a[DWB_AT_CODE]) {
     case DWB_GRANT:
-        printf("send cts %d %d %lu %d\n", a[2], a[4], number_at(a + 15), a[6]);
+        printf("send cts %d %d %lu %d\n", a[DWB_AT_SA], a[DWB_AT_SESSION], number_at(a + DWB_AT_SEGMENT), a[DWB_AT_COUNT]);
         break;
     case DWB_ENDED:
-        printf("%s %d %d %d\n", a[19] ? "send abort" : "ended", a[2], a[4], a[0]);
+        printf("%s %d %d %d\n", a[DWB_AT_SENDS] ? "send abort" : "ended", a[DWB_AT_SA], a[DWB_AT_SESSION], a[DWB_AT_NUMBER]);
         break;
     default: /* the other codes do not come up in this case */
-        printf("code %d number %d\n", a[1], a[0]);
+        printf("code %d number %d\n", a[DWB_AT_CODE], a[DWB_AT_NUMBER]);
     }
 }
 
@@ -38,15 +38,15 @@ static void print_answer(const uint8_t *a)
 static void print_groups(uint32_t id, const uint8_t *bytes, size_t length)
 {
     size_t count = dwb_groups(bytes, length, groups, DWB_GROUPS_WORDS);
-    for (const uint32_t *g = groups; g < groups + 3 * count; g += 3)
-        printf("pg %d %d %lu %lu\n", (int)(id & 255), (int)(id >> 8 & 255), (unsigned long)g[0], (unsigned long)g[2]);
+    for (const uint32_t *g = groups; g < groups + DWB_GROUP_WORDS * count; g += DWB_GROUP_WORDS)
+        printf("pg %d %d %lu %lu\n", (int)(id & 255), (int)(id >> 8 & 255), (unsigned long)g[DWB_GROUP_PGN], (unsigned long)g[DWB_GROUP_LENGTH]);
 }
 
 static void take_reading(uint32_t reading)
 {
     dwb_reading(record, sizeof record, reading, store, sizeof store, answers, sizeof answers);
     for (const uint8_t *a = answers; a < answers + sizeof answers; a += DWB_ANSWER_BYTES)
-        if (a[1] == DWB_ENDED)
+        if (a[DWB_AT_CODE] == DWB_ENDED)
             print_answer(a);
     taken++;
 }
@@ -54,7 +54,7 @@ static void take_reading(uint32_t reading)
 static void take_frame(uint32_t id, const uint8_t *bytes, size_t length)
 {
     dwb_frame(record, sizeof record, id, bytes, length, store, sizeof store, answer, sizeof answer);
-    if (answer[1] == DWB_GROUPS)
+    if (answer[DWB_AT_CODE] == DWB_GROUPS)
         print_groups(id, bytes, length);
     else
         print_answer(answer);
@@ -67,7 +67,7 @@ int main(void)
     static const uint8_t rts[] = {0x30, 61, 0, 0, 2, 0, 0, 255, 0, 0xCA, 0xFE, 0x00};
     static const uint8_t segment_2[] = {0x30, 2, 0, 0, 0x11};
 
-    if (dwb_open(record, sizeof record, 33, 1250, 0) != 0)
+    if (dwb_version() != DWB_VERSION || dwb_open(record, sizeof record, 33, 1250, 0) != 0)
         return 1;
     take_reading(0);
     take_frame(0x18252180, multi_pg, sizeof multi_pg);

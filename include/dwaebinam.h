@@ -8,41 +8,57 @@
 #include <stddef.h>
 #include <stdint.h>
 
-/* The receiver's record. Numbers of 32 bits stand with their low byte first.
-     0       own address
-     1..4    idle limit in milliseconds
-     5..8    last reading
-     9..     eight slots of 30 bytes:
-       0       0 free (the rest has no meaning and stays as it is), 1 open
-       1       1 RTS, 2 BAM
-       2..4    SA, DA, session number
-       5..8    Total Bytes
-       9..12   segments
-       13      MAX SGMTS
-       14..17  PGN
-       18..21  next segment
-       22..25  last segment granted
-       26..29  mark
-   A buffer of another length, or with a slot whose first two bytes are no such codes, is no record. */
+/* The version of this boundary. It goes up with every change of a call, a length, a place or a code below. dwb_version answers the
+   archive's: where the two differ, the program was compiled with the header of another archive, and must make no other call. */
+#define DWB_VERSION 1
+uint32_t dwb_version(void);
+
+/* The receiver's record is opaque: dwb_open fills it, and no other than these calls should read or write it. It holds no pointer, so it
+   may be copied and moved. A record that was changed by someone else is refused with 23 if it is out of bounds. */
 #define DWB_RECORD_BYTES 249
 
-/* The store: eight slots of 4,096 bytes. */
+/* The store: eight slots, one after the other. What it holds at first does not matter. */
+#define DWB_SLOT_BYTES 4096
 #define DWB_STORE_BYTES 32768
 
-/* An answer. Fields that an answer has not are 0.
-     0       number of the refusal, 0 where nothing is refused
-     1       code: one of DWB_GROUPS to DWB_REFUSED
-     2..4    SA, DA, session number
-     5       1 RTS, 2 BAM
-     6       segments granted (DWB_GRANT), slot (DWB_HANDED_OVER)
-     7..10   PGN
-     11..14  Total Bytes (DWB_HANDED_OVER)
-     15..18  segment taken (DWB_TAKEN), next segment (DWB_GRANT), segments (DWB_HANDED_OVER)
-     19      1 if a control frame is to be sent, else 0 with zeros behind
-     20..23  its identifier
-     24..35  its 12 bytes */
+/* An answer, and the places of its fields. PGN, Total Bytes, segment and identifier are numbers of 32 bits, low byte first. */
 #define DWB_ANSWER_BYTES 36
 
+enum {
+    DWB_AT_NUMBER = 0,      /* the refusal's number in 01, 0 where nothing is refused */
+    DWB_AT_CODE = 1,        /* DWB_GROUPS to DWB_REFUSED */
+    DWB_AT_SA = 2,
+    DWB_AT_DA = 3,
+    DWB_AT_SESSION = 4,
+    DWB_AT_KIND = 5,        /* DWB_RTS or DWB_BAM */
+    DWB_AT_COUNT = 6,       /* of DWB_GRANT: the segments granted */
+    DWB_AT_SLOT = 6,        /* of DWB_HANDED_OVER: the slot that has the message */
+    DWB_AT_PGN = 7,
+    DWB_AT_TOTAL = 11,      /* Total Bytes */
+    DWB_AT_SEGMENT = 15,    /* DWB_TAKEN: the segment taken. DWB_GRANT: the next one. DWB_HANDED_OVER: the number of segments */
+    DWB_AT_SENDS = 19,      /* 1 if a control frame is to be sent now, else 0 and zeros after it */
+    DWB_AT_IDENTIFIER = 20,
+    DWB_AT_DATA = 24        /* the frame's DWB_DATA_BYTES bytes */
+};
+#define DWB_DATA_BYTES 12
+
+enum { DWB_RTS = 1, DWB_BAM = 2 };
+
+/* What each answer says. SA, DA and session number are the key. A field that is not named here is 0.
+
+     code              what has happened                       fields                                               to be sent
+     DWB_GROUPS        the frame's groups are good             none; dwb_groups gives the groups                    nothing
+     DWB_OPENED        a BAM has opened a session              key; the kind is 0                                   nothing
+     DWB_TAKEN         a segment was taken                     key, segment; the kind is 0                          nothing
+     DWB_GRANT         an RTS has opened a session, or a       key, kind DWB_RTS, count, PGN, segment               CTS
+                       segment was taken that used up the
+                       grant: the one before the next
+     DWB_HANDED_OVER   an EOMS has ended a session that has    key, kind, slot, PGN, Total Bytes, segment           EOMA for an RTS
+                       every segment
+     DWB_ABORTED       the originator has ended its session    key; the kind is 0                                   nothing
+     DWB_ENDED         a refusal has ended a session           number (19, 21; 22 at a reading), key, kind, PGN     Abort for an RTS
+     DWB_REFUSED_RTS   an RTS was refused; nothing changed     number (8, 11 to 15), key, kind DWB_RTS, PGN         Abort
+     DWB_REFUSED       the frame was refused; nothing changed  number                                               nothing */
 enum {
     DWB_GROUPS = 1,
     DWB_OPENED = 2,
@@ -55,11 +71,18 @@ enum {
     DWB_REFUSED = 9
 };
 
-/* The answers of a reading: one for each slot, from slot 0 on. */
+/* The answers of a reading: one of DWB_ANSWER_BYTES for each slot, from slot 0 on. */
 #define DWB_ANSWERS_BYTES 288
 
-/* The groups of a frame: three numbers for each, its PGN, where its data starts in the frame, and how long it is; 16 fit at most. */
+/* The groups of a frame: DWB_GROUP_WORDS numbers for each; 16 fit at most. */
 #define DWB_GROUPS_WORDS 48
+
+enum {
+    DWB_GROUP_PGN = 0,
+    DWB_GROUP_START = 1,    /* where its data starts in the frame */
+    DWB_GROUP_LENGTH = 2,   /* how long its data is */
+    DWB_GROUP_WORDS = 3
+};
 
 /* The least data length of a CAN FD frame that holds need bytes; 255 for more than 64. */
 size_t dwb_least_length(size_t need);
@@ -68,29 +91,32 @@ size_t dwb_least_length(size_t need);
    record that every call refuses with 23. A buffer not of DWB_RECORD_BYTES is refused with 23 and stays as it was. */
 uint8_t dwb_open(uint8_t *record, size_t record_bytes, uint8_t own, uint32_t limit, uint32_t reading);
 
-/* Takes one frame of the identifier id. The answer's number; the answer is written, and the record and the store where 01 says so. A
-   message that is handed over is the first Total Bytes of its slot, at 4,096 times the slot's number in the store. 23 for a buffer
-   that is no record, a record out of bounds, or a store not of DWB_STORE_BYTES: the answer says so, all else stays as it was. An answer
-   buffer not of DWB_ANSWER_BYTES is refused with 23, and every buffer stays as it was. */
+/* Takes one frame with the identifier id: the answer's number, with the answer written, and the record and the store changed where the
+   answer says so. 23 for a buffer that is no record, a record out of bounds, or a store not of DWB_STORE_BYTES: the answer says so, and
+   record and store stay as they were. An answer buffer not of DWB_ANSWER_BYTES is refused with 23, and every buffer stays as it was.
+
+   A message that is handed over is the first Total Bytes of its slot, at DWB_SLOT_BYTES times the slot's number in the store. Its slot
+   is free from then on, and the next frame may open a session there: copy the message, by dwb_message or otherwise, before you call
+   dwb_frame again with this record and store. */
 uint8_t dwb_frame(uint8_t *record, size_t record_bytes, uint32_t id, const uint8_t *bytes, size_t bytes_len,
                   uint8_t *store, size_t store_bytes, uint8_t *answer, size_t answer_bytes);
 
-/* Takes one reading of the clock: each session silent for the idle limit ends, and its answer (DWB_ENDED, number 22) stands at 36 times
-   its slot's number in answers; a slot of which none ends has 36 zeros. 0, or 23 as for a frame, with the record as it was and zeros
-   in answers; answers not of DWB_ANSWERS_BYTES are refused with 23, and every buffer stays as it was. */
+/* Takes one reading of the clock: each session that was silent for the idle limit ends, and its answer (DWB_ENDED, number 22) is at
+   DWB_ANSWER_BYTES times its slot's number in answers; the bytes of every other slot are zeros there. 0, or 23 as for a frame, with the
+   record as it was and zeros in answers. answers not of DWB_ANSWERS_BYTES are refused with 23, and every buffer stays as it was. */
 uint8_t dwb_reading(uint8_t *record, size_t record_bytes, uint32_t reading, const uint8_t *store, size_t store_bytes,
                     uint8_t *answers, size_t answers_bytes);
 
-/* Copies the message of a DWB_HANDED_OVER answer out of the store: its length, with the bytes of out behind it as they were. 0, with
+/* Copies the message of a DWB_HANDED_OVER answer out of the store: its length, with the bytes of out after it as they were. 0, with
    out as it was, for any other answer, for a place that is not in the store, or where out is too short. */
 size_t dwb_message(const uint8_t *answer, size_t answer_bytes, const uint8_t *store, size_t store_bytes,
                    uint8_t *out, size_t out_bytes);
 
-/* The groups of a Multi-PG frame, judged whole: how many, with three numbers for each in groups and the numbers behind them as they
+/* The groups of a Multi-PG frame, judged whole: how many, with three numbers for each in groups and the numbers after them as they
    were. Refused: 256 times the number (23 for groups not of DWB_GROUPS_WORDS, 1, 4 to 8), with groups as they were. */
 size_t dwb_groups(const uint8_t *bytes, size_t bytes_len, uint32_t *groups, size_t groups_words);
 
-/* Packs groups into a frame: its length, 0 to 64, with the bytes of out behind it as they were. data holds the data of all groups back to
+/* Packs groups into a frame: its length, 0 to 64, with the bytes of out after it as they were. data holds the data of all groups back to
    back. Refused: 256 times the number (8 or 24), with out as it was. */
 size_t dwb_pack(const uint32_t *pgns, size_t pgns_len, const uint8_t *lengths, size_t lengths_len,
                 const uint8_t *data, size_t data_bytes, uint8_t *out, size_t out_bytes);

@@ -1,4 +1,4 @@
--- Where the bytes of an answer stand: 01, the last paragraph of "Life of a session". What does not lie there gives no byte.
+-- Where the bytes of an answer are: 01, the last paragraph of "Life of a session". What does not lie there gives no byte.
 use Prim.Native.Nat.{ℕ, _-_, _*_}
 use mathlib.Core.Bool.{cond}
 use mathlib.Core.List.{List, []}
@@ -9,7 +9,7 @@ use Rattle.answer.specs.declared.Answer.the-variants as answer
 use Rattle.answer.specs.declared.place.Place.{Place}
 use Rattle.answer.specs.declared.place.Place.the-variants.{Group, Message, Nowhere}
 
--- the message that an answer hands over stands in its slot; no other answer has bytes of its own
+-- the message that an answer hands over is in its slot; no other answer has bytes of its own
 abbrev pub placeOf : Answer → Place
 placeOf (answer.Groups route) = Nowhere
 placeOf (answer.Opened k) = Nowhere

@@ -15,7 +15,7 @@ use transport::Key;
 use transport::Kind;
 use transport::response::Cts;
 
-// A message handed over: its first total bytes stand in the slot.
+// A message handed over: its first total bytes are in the slot.
 pub struct Message {
     pub key: Key,
     pub kind: Kind,

@@ -1,4 +1,4 @@
-// Where the bytes of an answer stand (01, "Clock", last paragraph): a group's in the frame, a message's in the store.
+// Where the bytes of an answer are (01, "Clock", last paragraph): a group's in the frame, a message's in the store.
 ghost use mathlib.Core.Path.{_≡_};
 ghost use Rattle.answer.specs.Places.{cutOf, messageCut, placeOf, placeBytes};
 use super::Answer;

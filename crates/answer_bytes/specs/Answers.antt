@@ -1,5 +1,5 @@
 -- An answer as bytes of a fixed layout: number, code, key, kind, count or slot, PGN, Total Bytes, segment; then the frame that is due.
-use Prim.Native.Nat.{ℕ, _+_, _*_, _/_, _%_}
+use Prim.Native.Nat.{ℕ, _%_}
 use mathlib.Core.List.{List, [], _∷_, _++_}
 use lib.ListN.{replicate}
 use Rattle.frame.specs.Refusals.{numberOf}
@@ -18,6 +18,7 @@ use Rattle.answer.specs.declared.sent.Sending.the-variants as sending
 use Rattle.answer.specs.Answers.{answerSends, sendingOf}
 use Rattle.answer_bytes.specs.declared.Fields.{Fields}
 use Rattle.record_bytes.specs.Layout.{low4, kindByte}
+use Rattle.answer_bytes.specs.Places.{sentLength}
 
 abbrev pub noKey : Key
 noKey = record { sa = record { 0 = 0 }; da = record { 0 = 0 }; session = record { 0 = 0 } }
@@ -79,7 +80,7 @@ responseSent f = sentHead (responseId f) ++ responseBytes f
 
 -- 1, identifier and 12 bytes; zeros where nothing is sent
 abbrev pub sentBytes : Sending → List ℕ
-sentBytes sending.Nothing = replicate 17 0
+sentBytes sending.Nothing = replicate sentLength 0
 sentBytes (sending.Send f) = responseSent f
 
 abbrev pub answerBytes : Answer → List ℕ

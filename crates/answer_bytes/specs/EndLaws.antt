@@ -1,5 +1,5 @@
--- What stands where in the answers of a reading.
-use Prim.Native.Nat.{ℕ, zero, suc, _+_, _*_, _<_}
+-- What is where in the answers of a reading.
+use Prim.Native.Nat.{ℕ, zero, suc, _+_, _<_}
 use native.Mathlib.Omega.{arith}
 use mathlib.Core.Path.{_≡_, refl, ap, _∙_}
 use mathlib.Core.List.{List, [], _∷_, _++_}
@@ -11,33 +11,34 @@ use Rattle.answer.specs.declared.End.the-variants as end
 use Rattle.answer.specs.declared.SlotEnd.{SlotEnd}
 use Rattle.answer.specs.Answers.{endSends, sendingOf}
 use Rattle.receiver.specs.Calls.{stays}
+use Rattle.answer_bytes.specs.Places.{answerLength, answersLength, answerPlace, sentPlace}
 use Rattle.answer_bytes.specs.Answers.{fieldsOf, fieldsBytes, sentBytes}
 use Rattle.answer_bytes.specs.Sizes.{length-answer, length-fields}
 use Rattle.answer_bytes.specs.Ends.{endBytes, endsBytes}
 
-pub length-end : (e : End) → length (endBytes e) ≡ 36
+pub length-end : (e : End) → length (endBytes e) ≡ answerLength
 length-end end.Stays = refl
 length-end (end.Ended e) = length-answer (Ended e)
 
--- the frame that a session's end sends, behind the fields
-pub end-sent : (e : End) → drop 19 (endBytes e) ≡ sentBytes (sendingOf (endSends e))
+-- the frame that a session's end sends, after the fields
+pub end-sent : (e : End) → drop sentPlace (endBytes e) ≡ sentBytes (sendingOf (endSends e))
 end-sent end.Stays = refl
 end-sent (end.Ended e) =
-    drop-at (fieldsBytes (fieldsOf (Ended e))) (sentBytes (sendingOf (endSends (end.Ended e)))) 19 (length-fields (fieldsOf (Ended e)))
+    drop-at (fieldsBytes (fieldsOf (Ended e))) (sentBytes (sendingOf (endSends (end.Ended e)))) sentPlace (length-fields (fieldsOf (Ended e)))
 
--- slot i's answer stands at 36 times i
-pub end-place : (es : List SlotEnd) (i : ℕ) (d : SlotEnd) → i < length es → take 36 (drop (36 * i) (endsBytes es)) ≡ endBytes (getD es i d .end)
+-- where slot i's answer is
+pub end-place : (es : List SlotEnd) (i : ℕ) (d : SlotEnd) → i < length es → take answerLength (drop (answerPlace i) (endsBytes es)) ≡ endBytes (getD es i d .end)
 unfolding endsBytes
 end-place [] i d h = absurd (omega arith)
-end-place (e ∷ es) zero d h = take-at (endBytes (e .end)) (endsBytes es) 36 (length-end (e .end))
+end-place (e ∷ es) zero d h = take-at (endBytes (e .end)) (endsBytes es) answerLength (length-end (e .end))
 end-place (e ∷ es) (suc i) d h =
     let b : List ℕ = endBytes (e .end) in
-    let w : 36 * suc i ≡ length b + 36 * i = omega (arith, length-end (e .end)) in
-    ap (λ (k : ℕ). take 36 (drop k (b ++ endsBytes es))) w
-    ∙ ap (take 36) (drop-append-add b (endsBytes es) (36 * i))
+    let w : answerPlace (suc i) ≡ length b + answerPlace i = omega (arith, length-end (e .end)) in
+    ap (λ (k : ℕ). take answerLength (drop k (b ++ endsBytes es))) w
+    ∙ ap (take answerLength) (drop-append-add b (endsBytes es) (answerPlace i))
     ∙ end-place es i d (omega arith)
 
 -- zeros where no session ends
-pub none-ends : endsBytes (replicate 8 stays) ≡ replicate 288 0
+pub none-ends : endsBytes (replicate 8 stays) ≡ replicate answersLength 0
 unfolding endsBytes
 none-ends = refl

@@ -10,26 +10,27 @@ use Rattle.answer.specs.declared.sent.Sending.{Sending}
 use Rattle.answer.specs.declared.sent.Sending.the-variants as sending
 use Rattle.answer.specs.Answers.{answerSends, sendingOf}
 use Rattle.answer_bytes.specs.declared.Fields.{Fields}
+use Rattle.answer_bytes.specs.Places.{answerLength, sentPlace, sentLength, dataLength}
 use Rattle.answer_bytes.specs.Answers.{fieldsOf, fieldsBytes, sentHead, sentBytes, answerBytes}
 
-pub length-response : (f : Response) → length (responseBytes f) ≡ 12
+pub length-response : (f : Response) → length (responseBytes f) ≡ dataLength
 unfolding responseBytes
 length-response (Cts f) = refl
 length-response (Eoma f) = refl
 length-response (Abort f) = refl
 
-length-sent : (s : Sending) → length (sentBytes s) ≡ 17
+pub length-sent : (s : Sending) → length (sentBytes s) ≡ sentLength
 length-sent sending.Nothing = refl
 length-sent (sending.Send f) =
-    length-append (sentHead (responseId f)) (responseBytes f) ∙ ap (λ (n : ℕ). 5 + n) (length-response f)
+    length-append (sentHead (responseId f)) (responseBytes f) ∙ ap (λ (n : ℕ). length (sentHead (responseId f)) + n) (length-response f)
 
-pub length-fields : (f : Fields) → length (fieldsBytes f) ≡ 19
+pub length-fields : (f : Fields) → length (fieldsBytes f) ≡ sentPlace
 unfolding fieldsBytes
 length-fields f = refl
 
-pub length-answer : (a : Answer) → length (answerBytes a) ≡ 36
+pub length-answer : (a : Answer) → length (answerBytes a) ≡ answerLength
 length-answer a =
     let s : Sending = sendingOf (answerSends a) in
     length-append (fieldsBytes (fieldsOf a)) (sentBytes s)
     ∙ ap (λ (n : ℕ). n + length (sentBytes s)) (length-fields (fieldsOf a))
-    ∙ ap (λ (n : ℕ). 19 + n) (length-sent s)
+    ∙ ap (λ (n : ℕ). sentPlace + n) (length-sent s)

@@ -1,12 +1,14 @@
 // An answer as bytes of a fixed layout, for a caller that is not Rattle (01, "Life of a session"): its fields, then the control frame
 // that is due.
 ghost use mathlib.Core.Path.{_≡_};
-ghost use mathlib.Core.List.{_++_};
-ghost use Prim.Native.Nat.{_%_};
-ghost use lib.ListN.{length, take};
-ghost use Rattle.answer_bytes.specs.Answers.{noKey, keyed, takenFields, grantFields, messageFields, endedFields, rejectionFields, fieldsOf, fieldsBytes, sentHead, responseSent, sentBytes, answerBytes};
+ghost use Prim.Native.Nat.{_+_, _%_, _≤_};
+ghost use lib.ListN.{length};
+ghost use lib.Seq.{paste};
+ghost use Rattle.answer_bytes.specs.Answers.{noKey, keyed, takenFields, grantFields, messageFields, endedFields, rejectionFields, fieldsOf, fieldsBytes, responseSent, sentBytes, answerBytes};
+ghost use Rattle.answer_bytes.specs.Places.{answerLength, sentPlace, sentLength};
 
 pub mod ends;
+pub mod places;
 
 use answer::Answer;
 use answer::Ending;
@@ -17,18 +19,24 @@ use answer::sent::Sending;
 use answer::sent::response_of;
 use frame::Address;
 use frame::SessionNumber;
-use frame::octet::low_byte;
 use frame::refusal;
 use octets::copy;
+use places::DATA_AT;
+use places::DATA_BYTES;
+use places::IDENTIFIER_AT;
+use places::PGN_AT;
+use places::SEGMENT_AT;
+use places::SENT_AT;
+use places::SENT_BYTES;
+use places::TOTAL_AT;
 use record_bytes::slot::kind_byte;
+use record_bytes::word::put_word;
 use transport::Key;
 use transport::response;
 use transport::response::Cts;
 use transport::response::Response;
 
-pub const ANSWER_BYTES: usize = 36;
-
-// The fields of an answer; those that it has not are 0.
+// The fields of an answer; those that it does not have are 0.
 pub struct Fields {
     pub number: u8,
     pub code: u8,
@@ -173,10 +181,12 @@ fn fields_of(a: Answer) -> Fields
     }
 }
 
-pub fn fields_bytes(f: Fields) -> [u8; 19]
-    ensures { λ r. ⌜ r ≡ fieldsBytes f ⌝ }
+// Writes the fields of an answer that begins at at.
+pub fn put_fields(f: Fields, out: &mut [u8], at: usize)
+    requires { ⌜ at + answerLength ≤ length (now out) ⌝ }
+    ensures { λ _. ⌜ now (out .exit) ≡ paste (now (out .entry)) at (fieldsBytes f) sentPlace ⌝ }
 {
-    [
+    let front = [
         f.number,
         f.code,
         f.key.sa.0,
@@ -184,66 +194,46 @@ pub fn fields_bytes(f: Fields) -> [u8; 19]
         f.key.session.0,
         f.kind,
         f.extra,
-        low_byte(f.pgn),
-        low_byte(f.pgn / 256),
-        low_byte(f.pgn / 65536),
-        low_byte(f.pgn / 16777216),
-        low_byte(f.total),
-        low_byte(f.total / 256),
-        low_byte(f.total / 65536),
-        low_byte(f.total / 16777216),
-        low_byte(f.segment),
-        low_byte(f.segment / 256),
-        low_byte(f.segment / 65536),
-        low_byte(f.segment / 16777216),
-    ]
+    ];
+    copy(out, at, &front, 0, PGN_AT);
+    put_word(out, at + PGN_AT, f.pgn);
+    put_word(out, at + TOTAL_AT, f.total);
+    put_word(out, at + SEGMENT_AT, f.segment);
 }
 
-fn sent_head(id: u32) -> [u8; 5]
-    ensures { λ r. ⌜ r ≡ sentHead id ⌝ }
+// A control frame after the fields: 1, identifier, 12 bytes.
+fn put_response(f: Response, out: &mut [u8], at: usize)
+    requires { ⌜ at + answerLength ≤ length (now out) ⌝ }
+    ensures { λ _. ⌜ now (out .exit) ≡ paste (now (out .entry)) (at + sentPlace) (responseSent f) sentLength ⌝ }
 {
-    [
-        1,
-        low_byte(id),
-        low_byte(id / 256),
-        low_byte(id / 65536),
-        low_byte(id / 16777216),
-    ]
-}
-
-// A control frame behind the fields: 1, identifier, 12 bytes.
-pub fn put_response(f: Response, out: &mut [u8])
-    requires { ⌜ length (now out) ≡ 36 ⌝ }
-    ensures { λ _. ⌜ now (out .exit) ≡ take 19 (now (out .entry)) ++ responseSent f ⌝ }
-{
-    let head = sent_head(response::identifier(f));
+    let sent = [1u8];
     let data = response::bytes(f);
-    copy(out, 19, &head, 0, 5);
-    copy(out, 24, &data, 0, 12);
+    copy(out, at + SENT_AT, &sent, 0, 1);
+    put_word(out, at + IDENTIFIER_AT, response::identifier(f));
+    copy(out, at + DATA_AT, &data, 0, DATA_BYTES);
 }
 
-// What is sent, behind the fields; zeros where nothing is.
-fn put_sending(s: Sending, out: &mut [u8])
-    requires { ⌜ length (now out) ≡ 36 ⌝ }
-    ensures { λ _. ⌜ now (out .exit) ≡ take 19 (now (out .entry)) ++ sentBytes s ⌝ }
+// What is sent, after the fields; zeros where nothing is.
+pub fn put_sending(s: Sending, out: &mut [u8], at: usize)
+    requires { ⌜ at + answerLength ≤ length (now out) ⌝ }
+    ensures { λ _. ⌜ now (out .exit) ≡ paste (now (out .entry)) (at + sentPlace) (sentBytes s) sentLength ⌝ }
 {
     match s {
         Sending::Nothing => {
-            let none = [0u8; 17];
-            copy(out, 19, &none, 0, 17);
+            let none = [0u8; SENT_BYTES];
+            copy(out, at + SENT_AT, &none, 0, SENT_BYTES);
         }
         Sending::Send(f) => {
-            put_response(f, out);
+            put_response(f, out, at);
         }
     }
 }
 
 // Writes an answer over a buffer of ANSWER_BYTES.
 pub fn write_answer(a: Answer, out: &mut [u8])
-    requires { ⌜ length (now out) ≡ 36 ⌝ }
+    requires { ⌜ length (now out) ≡ answerLength ⌝ }
     ensures { λ _. ⌜ now (out .exit) ≡ answerBytes a ⌝ }
 {
-    let head = fields_bytes(fields_of(a));
-    copy(out, 0, &head, 0, 19);
-    put_sending(response_of(a), out);
+    put_fields(fields_of(a), out, 0);
+    put_sending(response_of(a), out, 0);
 }

@@ -1,13 +1,22 @@
 -- What a reading answers fits its bytes.
-use Prim.Native.Nat.{ℕ}
+use Prim.Native.Nat.{ℕ, _≤_}
 use mathlib.Core.Path.{_≡_, refl, _∙_}
-use mathlib.Core.Bool.{Bool, true, false, cond}
+use mathlib.Core.Bool.{Bool, true, false, cond, not}
 use mathlib.Core.List.{List, [], _∷_, map}
 use lib.ListN.{length, replicate, length-map}
 use Rattle.frame.specs.declared.refusal.Refusal.the-variants.{Silence, OutOfBounds}
 use Rattle.answer.specs.declared.Acceptance.the-variants as acceptance
 use Rattle.answer.specs.declared.End.the-variants as end
-use Rattle.answer.specs.Answers.{acceptanceNumber}
+use Rattle.answer.specs.Answers.{abortFor, wireOf}
+use Rattle.transport.specs.Kinds.{isRts}
+use Rattle.session.specs.Bounds.{sessionOk, stateOk}
+use Rattle.slots.specs.Bounds.{openingOk, slotOk, twinOf, slotsOk}
+use Rattle.receiver.specs.Bounds.{inBounds}
+use Rattle.laws.specs.Choice.{each-of}
+use Rattle.frame.specs.declared.Address.{Address}
+use mathlib.Mathlib.Data.Bool.Basic.{and-elim-right}
+use mathlib.Core.Option.{none, some}
+use lib.Dec.{eqb}
 use Rattle.session.specs.declared.Session.{Session}
 use Rattle.session.specs.declared.State.{State}
 use Rattle.session.specs.declared.State.the-variants.{Closed, Open}
@@ -17,19 +26,12 @@ use Rattle.slots.specs.declared.Slot.{Slot}
 use Rattle.receiver.specs.declared.Receiver.{Receiver}
 use Rattle.receiver.specs.Calls.{Elapsed, isReady, slotEnd, stays, readingKept, readingStep}
 use Rattle.record_bytes.specs.RoundTrip.{SessionFits, StateFits, SlotsFit, RecordFits}
-use Rattle.carried.specs.ReadBack.{acceptanceAt}
-use Rattle.carried.proofs.ReadBack.{EndFits, EndsFit}
+use Rattle.isolation.proofs.Many.{own-small}
+use Rattle.carried.proofs.ReadBack.{WireFits, EndFits, EndsFit}
+use Rattle.carried.proofs.Sent.{session-id-fits}
 
 abbrev readBy : Receiver → ℕ → Bool → Elapsed
 readBy r t b = cond b (readingKept r t) (record { next = r; answer = acceptance.Refused OutOfBounds; ends = replicate 8 stays })
-
-pub reading-number : (r : Receiver) (t : ℕ) (m : List ℕ) → acceptanceAt (acceptanceNumber (readingStep r t m .answer)) ≡ readingStep r t m .answer
-unfolding readingStep
-reading-number r t m = go (isReady r m)
-  where
-    go : (b : Bool) → acceptanceAt (acceptanceNumber (readBy r t b .answer)) ≡ readBy r t b .answer
-    go true = refl
-    go false = refl
 
 pub reading-eight : (r : Receiver) → RecordFits r → (t : ℕ) (m : List ℕ) → length (readingStep r t m .ends) ≡ 8
 unfolding readingStep
@@ -39,22 +41,33 @@ reading-eight r f t m = go (isReady r m)
     go true = length-map (r .slots) (slotEnd (r .limit) t) ∙ f .eight
     go false = refl
 
-slot-ends : (limit t : ℕ) (l : List Slot) → SlotsFit l → EndsFit (map (slotEnd limit t) l)
-slot-ends limit t [] f = tt
-slot-ends limit t (x ∷ l) (f, fs) = (go (x .state) f, slot-ends limit t l fs)
+slot-ends : (own : Address) (limit t : ℕ) → own .0 ≤ 253 → (l : List Slot) → slotsOk own l ≡ true → SlotsFit l → EndsFit (map (slotEnd limit t) l)
+unfolding slotsOk
+slot-ends own limit t h [] e f = tt
+slot-ends own limit t h (x ∷ l) e (f, fs) =
+    let p = each-of (slotOk own x ∷ not (twinOf x l) ∷ slotsOk own l ∷ []) e in (
+      go (x .state) (p .0) f,
+      slot-ends own limit t h l (p .1 .1 .0) fs,
+    )
   where
-    by : (s : Session) → SessionFits s → (b : Bool) → EndFits (cond b (end.Ended (endingOf s Silence)) end.Stays)
-    by s f true = f .pgn
-    by s f false = tt
+    sends : (s : Session) → sessionOk own s ≡ true → (b : Bool) → WireFits (wireOf (cond b (some (abortFor (s .announced .key) Silence (s .announced .pgn))) none))
+    sends s e true = session-id-fits own s h e
+    sends s e false = tt
 
-    go : (st : State) → StateFits st → EndFits (slotEnd limit t (record { state = st }) .end)
-    go Closed f = tt
-    go (Open s) f = by s f (isIdle limit (s .progress .mark) t)
+    by : (s : Session) → sessionOk own s ≡ true → SessionFits s → (b : Bool) → EndFits (cond b (end.Ended (endingOf s Silence)) end.Stays)
+    by s e f true = (f .pgn, sends s e (isRts (s .announced .kind)))
+    by s e f false = tt
+
+    go : (st : State) → stateOk own st ≡ true → StateFits st → EndFits (slotEnd limit t (record { state = st }) .end)
+    go Closed e f = tt
+    go (Open s) e f = by s e f (isIdle limit (s .progress .mark) t)
 
 pub reading-ends : (r : Receiver) → RecordFits r → (t : ℕ) (m : List ℕ) → EndsFit (readingStep r t m .ends)
-unfolding readingStep
-reading-ends r f t m = go (isReady r m)
+unfolding readingStep inBounds
+reading-ends r f t m = go (isReady r m) refl
   where
-    go : (b : Bool) → EndsFit (readBy r t b .ends)
-    go true = slot-ends (r .limit) t (r .slots) (f .slots)
-    go false = (tt, (tt, (tt, (tt, (tt, (tt, (tt, (tt, tt))))))))
+    go : (b : Bool) → isReady r m ≡ b → EndsFit (readBy r t b .ends)
+    go true e =
+        let p = each-of (openingOk (r .own) (r .limit) ∷ slotsOk (r .own) (r .slots) ∷ []) (and-elim-right (eqb (length m) 32768) (inBounds r) e) in
+        slot-ends (r .own) (r .limit) t (own-small (r .own) (r .limit) (p .0)) (r .slots) (p .1 .0) (f .slots)
+    go false e = (tt, (tt, (tt, (tt, (tt, (tt, (tt, (tt, tt))))))))

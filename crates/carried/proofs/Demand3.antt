@@ -22,7 +22,7 @@ use Rattle.isolation.specs.World.{told}
 use Rattle.isolation.proofs.Demand3.{opens-in-bounds, demand-3}
 use Rattle.carried.specs.Crossed.{Lending, AllProper, callsOf}
 use Rattle.carried.specs.Shown.{shownOver}
-use Rattle.carried.proofs.Step.{Holds}
+use Rattle.carried.proofs.Step.{HasRecord}
 use Rattle.carried.proofs.Run.{Fine, fine-fits, Carried, carried}
 
 -- ---- an opening that is answered 0
@@ -60,9 +60,9 @@ module _ (own limit first : ℕ) (d : List ℕ) (zero-answered : openedIn own li
     whole = whole;
   }
 
-  opened-holds : Holds (openedIn own limit first d .1) O
+  opened-holds : HasRecord (openedIn own limit first d .1) O
   opened-holds =
-      subst (λ (b : List ℕ). Holds b O) (sym (opens own limit first d zero-answered .1))
+      subst (λ (b : List ℕ). HasRecord b O) (sym (opens own limit first d zero-answered .1))
       (record { codes = is-record O (fine-fits O m opened-fine); reads = read-back O (fine-fits O m opened-fine) })
 
   -- After an opening that is answered 0, over any store of 32,768 bytes and any list of calls, each with room for its answer, its frame

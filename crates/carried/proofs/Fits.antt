@@ -19,7 +19,7 @@ use Rattle.frame.specs.declared.judge.Route.{Route}
 use Rattle.frame.specs.Judge.{judged}
 use Rattle.frame.specs.Octets.{low24}
 use Rattle.frame.specs.Pgn.{lowByteOk}
-use Rattle.multi_pg.specs.Groups.{Reading, good, bad, reading}
+use Rattle.multi_pg.specs.Groups.{GroupsRead, good, bad, groupsRead}
 use Rattle.transport.specs.declared.Key.{Key}
 use Rattle.transport.specs.declared.Kind.the-variants.{Rts, Bam}
 use Rattle.transport.specs.declared.control.Announcement.{Announcement}
@@ -147,7 +147,8 @@ module _ (r : Receiver) (h : Narrow r) (f : RecordFits r) where
   put : (i : ℕ) (c : Change) → ChangeFits c → Narrow (withSlot r i (after (getD (r .slots) i freeSlot .state) c))
   put i c g = record {
     last = h .last;
-    slots = narrow-set (r .slots) i (record { state = after (getD (r .slots) i freeSlot .state) c }) (h .slots) (after-narrow (getD (r .slots) i freeSlot .state) c (narrow-at (r .slots) i (h .slots)) g);
+    slots = narrow-set (r .slots) i (record { state = after (getD (r .slots) i freeSlot .state) c }) (h .slots)
+        (after-narrow (getD (r .slots) i freeSlot .state) c (narrow-at (r .slots) i (h .slots)) g);
   }
 
   applied-narrow : (i : ℕ) (c : Change) → ChangeFits c → Narrow (applied r i c)
@@ -190,12 +191,16 @@ module _ (r : Receiver) (h : Narrow r) (f : RecordFits r) where
       G = slotFor (keyOf route d) (r .slots)
 
       go : (t u v w x : Bool)
-          → Well (onControl (cond t (control.Refused TransferLength) (cond u (control.Announce (announcementAt Rts d)) (cond v (control.Announce (announcementAt Bam d)) (cond w (control.EndOfMessage (statusAt d)) (cond x (control.Abort (abortPgnAt d)) (control.Refused NotReceivers)))))) r (keyOf route d))
+          → Well (onControl (cond t (control.Refused TransferLength)
+          (cond u (control.Announce (announcementAt Rts d))
+          (cond v (control.Announce (announcementAt Bam d))
+          (cond w (control.EndOfMessage (statusAt d)) (cond x (control.Abort (abortPgnAt d)) (control.Refused NotReceivers)))))) r (keyOf route d))
       go true u v w x = refused-well TransferLength
       go false true v w x = announces K (announcementAt Rts d) (pgn-small d b)
       go false false true w x = announces K (announcementAt Bam d) (pgn-small d b)
       go false false false true x =
-          well G (statusTo (stateIn G (r .slots)) (slotOf G) (statusAt d)) (status-fits (stateIn G (r .slots)) (slotOf G) (statusAt d) (state-small G) (slot-small G (for-within K (r .slots) 8 (f .eight))))
+          well G (statusTo (stateIn G (r .slots)) (slotOf G) (statusAt d))
+          (status-fits (stateIn G (r .slots)) (slotOf G) (statusAt d) (state-small G) (slot-small G (for-within K (r .slots) 8 (f .eight))))
       go false false false false true = well G (abortTo (stateIn G (r .slots)) (abortPgnAt d)) (abort-fits (stateIn G (r .slots)) (abortPgnAt d))
       go false false false false false = refused-well NotReceivers
 
@@ -209,7 +214,7 @@ module _ (r : Receiver) (h : Narrow r) (f : RecordFits r) where
   unfolding frameAll
   frame-well id d m b = go (isReady r m) (judged (r .own) id (length d))
     where
-      groups : (x : Reading) (route : Route) → Well (groupsStep x route r)
+      groups : (x : GroupsRead) (route : Route) → Well (groupsStep x route r)
       groups (good gs) route = record { narrow = h; answer = tt }
       groups (bad n) route = refused-well n
 
@@ -219,7 +224,7 @@ module _ (r : Receiver) (h : Narrow r) (f : RecordFits r) where
 
       go : (t : Bool) (v : Verdict) → Well (cond t (onVerdict v r d m) (refused r OutOfBounds, m) .0)
       go false v = refused-well OutOfBounds
-      go true (verdict.MultiPg route) = groups (reading d) route
+      go true (verdict.MultiPg route) = groups (groupsRead d) route
       go true (verdict.Control route) = controls route d b
       go true (verdict.Data route) = datas (dataFrameOf d) route
       go true (verdict.Refused n) = refused-well n

@@ -24,13 +24,14 @@ use Rattle.lent_record.specs.Ready.{readyIn}
 use Rattle.engine.specs.declared.reading.ReadingAnswer.{ReadingAnswer}
 use Rattle.engine.specs.InBytes.{InBytes, outcomeIn, frameIn}
 use Rattle.engine.specs.Elapsing.{elapsedIn, readingIn}
+use Rattle.answer_bytes.specs.Places.{answerLength, answersLength}
 use Rattle.answer_bytes.specs.Ends.{endsBytes}
 use Rattle.dwaebinam.specs.Calls.{told, framedIn}
 use Rattle.answer.specs.Answers.{acceptanceNumber}
 use Rattle.dwaebinam.specs.Reading.{readBy, readIn}
 
 -- the bytes after a call are a record, and read as the receiver's next
-pub record Holds (b : List ℕ) (r : Receiver) : Type 0 where
+pub record HasRecord (b : List ℕ) (r : Receiver) : Type 0 where
   pub codes : isRecord b ≡ true
   pub reads : recordAt b ≡ r
 
@@ -40,16 +41,16 @@ pub record Holds (b : List ℕ) (r : Receiver) : Type 0 where
 pub record Frames (x : InBytes) (o : Outcome) : Type 0 where
   pub answer : x .0 ≡ o .0 .answer
   pub store : x .1 .1 ≡ o .1
-  pub next : Holds (x .1 .0) (o .0 .next)
+  pub next : HasRecord (x .1 .0) (o .0 .next)
 
 -- number and answers are the receiver's, and the bytes hold its next record
 pub record Reads (x : ℕ × (List ℕ × List ℕ)) (e : Elapsed) : Type 0 where
   pub number : x .0 ≡ acceptanceNumber (e .answer)
   pub answers : x .1 .1 ≡ endsBytes (e .ends)
-  pub next : Holds (x .1 .0) (e .next)
+  pub next : HasRecord (x .1 .0) (e .next)
 
 module _ (b : List ℕ) (is : isRecord b ≡ true) where
-  pub put-holds : (r : Receiver) → RecordFits r → Holds (putIn b r) r
+  pub put-holds : (r : Receiver) → RecordFits r → HasRecord (putIn b r) r
   put-holds r f = record { codes = put-is-record b (record-long b is) r f; reads = put-read b (record-long b is) r f }
 
   -- One frame, refused or not: 23 too.
@@ -92,14 +93,14 @@ module _ (b : List ℕ) (is : isRecord b ≡ true) where
       go false f = record { number = refl; answers = refl; next = record { codes = is; reads = refl } }
 
   -- One reading with room of the right length, refused or not.
-  pub reading-step : (t : ℕ) (m a : List ℕ) → length a ≡ 288 → RecordFits (readingStep (recordAt b) t m .next) → Reads (readIn b t m a) (readingStep (recordAt b) t m)
+  pub reading-step : (t : ℕ) (m a : List ℕ) → length a ≡ answersLength → RecordFits (readingStep (recordAt b) t m .next) → Reads (readIn b t m a) (readingStep (recordAt b) t m)
   unfolding readIn
   reading-step t m a room f =
       subst (λ (x : ℕ × (List ℕ × List ℕ)). Reads x (readingStep (recordAt b) t m))
-      (else (not (eqb (length a) 288)) _ _ _ (ap not (eq-eqb _ _ room)) refl)
+      (else (not (eqb (length a) answersLength)) _ _ _ (ap not (eq-eqb _ _ room)) refl)
       (reading-reads t m f)
 
 -- room of the right length for a frame's answer
-pub framed-is : (b : List ℕ) (id : ℕ) (d m a : List ℕ) → length a ≡ 36 → framedIn b id d m a ≡ told (frameIn b id d m)
+pub framed-is : (b : List ℕ) (id : ℕ) (d m a : List ℕ) → length a ≡ answerLength → framedIn b id d m a ≡ told (frameIn b id d m)
 unfolding framedIn
-framed-is b id d m a room = sym (else (not (eqb (length a) 36)) _ _ _ (ap not (eq-eqb _ _ room)) refl)
+framed-is b id d m a room = sym (else (not (eqb (length a) answerLength)) _ _ _ (ap not (eq-eqb _ _ room)) refl)

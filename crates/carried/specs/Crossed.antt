@@ -9,6 +9,7 @@ use Rattle.receiver.specs.Calls.{Elapsed}
 use Rattle.receiver.specs.Calls.{frameStep, readingStep}
 use Rattle.answer.specs.Answers.{answerNumber, acceptanceNumber}
 use Rattle.record_bytes.specs.Kept.{Bytes}
+use Rattle.answer_bytes.specs.Places.{answerLength, answersLength}
 use Rattle.answer_bytes.specs.Answers.{answerBytes}
 use Rattle.answer_bytes.specs.Ends.{endsBytes}
 use Rattle.dwaebinam.specs.Calls.{framedIn}
@@ -28,10 +29,10 @@ Lending = Call × List ℕ
 
 -- room of the right length, a frame of bytes, and a reading of 32 bits
 abbrev pub Proper : Lending → Type 0
-Proper (lent (frame id d), a) = (length a ≡ 36) × Bytes d
-Proper (lent (clock t), a) = (length a ≡ 288) × (t < 4294967296)
-Proper (elsewhere o e (frame id d), a) = (length a ≡ 36) × Bytes d
-Proper (elsewhere o e (clock t), a) = (length a ≡ 288) × (t < 4294967296)
+Proper (lent (frame id d), a) = (length a ≡ answerLength) × Bytes d
+Proper (lent (clock t), a) = (length a ≡ answersLength) × (t < 4294967296)
+Proper (elsewhere o e (frame id d), a) = (length a ≡ answerLength) × Bytes d
+Proper (elsewhere o e (clock t), a) = (length a ≡ answersLength) × (t < 4294967296)
 
 abbrev pub AllProper : List Lending → Type 0
 AllProper [] = Unit {0}

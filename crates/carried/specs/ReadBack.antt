@@ -1,9 +1,10 @@
 -- Answers read off the bytes that a call gives: what a program in C can take from them.
-use Prim.Native.Nat.{ℕ, zero, suc}
+use Prim.Native.Nat.{ℕ, suc}
 use mathlib.Core.Bool.{cond}
+use mathlib.Core.Option.{Option, none, some}
 use mathlib.Core.List.{List, [], _∷_}
 use lib.Dec.{eqb}
-use lib.ListN.{getD, take, drop}
+use lib.ListN.{getD, drop}
 use Rattle.frame.specs.declared.refusal.Refusal.{Refusal}
 use Rattle.frame.specs.declared.refusal.Refusal.the-variants.{FrameLength, IdentifierRange, NotTaken, HeaderCut, DataCut, ServiceType, TrailerFormat, PgnForm, TransferLength, NotReceivers, AnnouncementForm, TooLong, Assurance, KeyOpen, SlotsFull, KeyNotOpen, FormatIndicator, AlreadyTaken, OutOfSequence, SegmentCut, StatusMismatch, Silence, OutOfBounds, PackRequest}
 use Rattle.frame.specs.declared.judge.Route.{Route}
@@ -11,12 +12,9 @@ use Rattle.transport.specs.declared.Key.{Key}
 use Rattle.answer.specs.declared.Ending.{Ending}
 use Rattle.answer.specs.declared.Answer.{Answer}
 use Rattle.answer.specs.declared.Answer.the-variants.{Groups, Opened, Taken, Grant, HandedOver, Aborted, Ended, RefusedRts, Refused}
-use Rattle.answer.specs.declared.End.{End}
-use Rattle.answer.specs.declared.End.the-variants as end
-use Rattle.answer.specs.declared.SlotEnd.{SlotEnd}
-use Rattle.answer.specs.declared.Acceptance.{Acceptance}
-use Rattle.answer.specs.declared.Acceptance.the-variants as acceptance
+use Rattle.isolation.specs.Replies.{Wire}
 use Rattle.record_bytes.specs.Layout.{low32, kindAt}
+use Rattle.answer_bytes.specs.Places.{numberPlace, codePlace, saPlace, daPlace, sessionPlace, kindPlace, extraPlace, pgnPlace, totalPlace, segmentPlace, sentPlace, identifierPlace, dataPlace}
 
 abbrev pub firstOf : ℕ → ℕ → List Refusal → Refusal
 firstOf n i [] = PackRequest
@@ -26,13 +24,15 @@ firstOf n i (x ∷ l) = cond (eqb n i) x (firstOf n (suc i) l)
 abbrev pub refusalAt : ℕ → Refusal
 refusalAt n =
     firstOf n 1
-    (FrameLength ∷ IdentifierRange ∷ NotTaken ∷ HeaderCut ∷ DataCut ∷ ServiceType ∷ TrailerFormat ∷ PgnForm ∷ TransferLength ∷ NotReceivers ∷ AnnouncementForm ∷ TooLong ∷ Assurance ∷ KeyOpen ∷ SlotsFull ∷ KeyNotOpen ∷ FormatIndicator ∷ AlreadyTaken ∷ OutOfSequence ∷ SegmentCut ∷ StatusMismatch ∷ Silence ∷ OutOfBounds ∷ [])
+    (FrameLength ∷ IdentifierRange ∷ NotTaken ∷ HeaderCut ∷ DataCut ∷ ServiceType ∷ TrailerFormat ∷ PgnForm ∷
+    TransferLength ∷ NotReceivers ∷ AnnouncementForm ∷ TooLong ∷ Assurance ∷ KeyOpen ∷ SlotsFull ∷ KeyNotOpen ∷
+    FormatIndicator ∷ AlreadyTaken ∷ OutOfSequence ∷ SegmentCut ∷ StatusMismatch ∷ Silence ∷ OutOfBounds ∷ [])
 
 abbrev pub keyIn : List ℕ → Key
-keyIn p = record { sa = record { 0 = getD p 2 0 }; da = record { 0 = getD p 3 0 }; session = record { 0 = getD p 4 0 } }
+keyIn p = record { sa = record { 0 = getD p saPlace 0 }; da = record { 0 = getD p daPlace 0 }; session = record { 0 = getD p sessionPlace 0 } }
 
 abbrev pub endingIn : List ℕ → Ending
-endingIn p = record { key = keyIn p; kind = kindAt (getD p 5 0); refusal = refusalAt (getD p 0 0); pgn = low32 p 7 }
+endingIn p = record { key = keyIn p; kind = kindAt (getD p kindPlace 0); refusal = refusalAt (getD p numberPlace 0); pgn = low32 p pgnPlace }
 
 -- the bytes of an answer do not say where a Multi-PG frame came from and went: who lent the frame has its identifier
 abbrev pub noRoute : Route
@@ -53,27 +53,28 @@ abbrev pub answerBy : ℕ → List ℕ → Answer
 answerBy code p =
     cond (eqb code 1) (Groups noRoute)
     (cond (eqb code 2) (Opened (keyIn p))
-    (cond (eqb code 3) (Taken (record { key = keyIn p; number = record { 0 = low32 p 15 } }))
-    (cond (eqb code 4) (Grant (record { key = keyIn p; next = record { 0 = low32 p 15 }; count = getD p 6 0; pgn = low32 p 7 }))
-    (cond (eqb code 5) (HandedOver (record { key = keyIn p; kind = kindAt (getD p 5 0); total = record { 0 = low32 p 11 }; segments = record { 0 = low32 p 15 }; pgn = low32 p 7; slot = getD p 6 0 }))
+    (cond (eqb code 3) (Taken (record { key = keyIn p; number = record { 0 = low32 p segmentPlace } }))
+    (cond (eqb code 4) (Grant (record { key = keyIn p; next = record { 0 = low32 p segmentPlace }; count = getD p extraPlace 0; pgn = low32 p pgnPlace }))
+    (cond (eqb code 5) (HandedOver
+    (record {
+      key = keyIn p;
+      kind = kindAt
+          (getD p kindPlace 0);
+      total = record { 0 = low32 p totalPlace };
+      segments = record { 0 = low32 p segmentPlace };
+      pgn = low32 p pgnPlace;
+      slot = getD p extraPlace 0;
+    }))
     (cond (eqb code 6) (Aborted (keyIn p))
     (cond (eqb code 7) (Ended (endingIn p))
-    (cond (eqb code 8) (RefusedRts (record { key = keyIn p; refusal = refusalAt (getD p 0 0); pgn = low32 p 7 }))
-    (Refused (refusalAt (getD p 0 0))))))))))
+    (cond (eqb code 8) (RefusedRts (record { key = keyIn p; refusal = refusalAt (getD p numberPlace 0); pgn = low32 p pgnPlace }))
+    (Refused (refusalAt (getD p numberPlace 0))))))))))
 
--- by the code that stands second
+-- by the code that is second
 abbrev pub answerAt : List ℕ → Answer
-answerAt p = answerBy (getD p 1 0) p
+answerAt p = answerBy (getD p codePlace 0) p
 
--- ---- a reading
+-- ---- the frame sent, off its own bytes: 1 where there is one, its identifier, its 12 bytes
 
-abbrev pub endAt : List ℕ → End
-endAt p = cond (eqb (getD p 1 0) 7) (end.Ended (endingIn p)) end.Stays
-
--- 36 bytes for each slot
-abbrev pub endsAt : ℕ → List ℕ → List SlotEnd
-endsAt zero b = []
-endsAt (suc n) b = record { end = endAt (take 36 b) } ∷ endsAt n (drop 36 b)
-
-abbrev pub acceptanceAt : ℕ → Acceptance
-acceptanceAt n = cond (eqb n 0) acceptance.Accepted (acceptance.Refused (refusalAt n))
+abbrev pub wireAt : List ℕ → Option Wire
+wireAt p = cond (eqb (getD p sentPlace 0) 1) (some (low32 p identifierPlace, drop dataPlace p)) none

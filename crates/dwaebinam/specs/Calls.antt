@@ -12,7 +12,12 @@ use Rattle.answer.specs.Answers.{answerNumber, acceptanceNumber}
 use Rattle.record_bytes.specs.Places.{recordLength}
 use Rattle.record_bytes.specs.Layout.{recordBytes}
 use Rattle.engine.specs.InBytes.{InBytes, frameIn}
+use Rattle.answer_bytes.specs.Places.{answerLength}
 use Rattle.answer_bytes.specs.Answers.{answerBytes}
+
+-- the version of the boundary, in include/dwaebinam.h too
+abbrev pub boundaryVersion : ℕ
+boundaryVersion = 1
 
 abbrev pub leastOr : Least → ℕ
 leastOr (Length n) = n
@@ -34,4 +39,4 @@ told x = (answerNumber (x .0), (x .1 .0, (x .1 .1, answerBytes (x .0))))
 
 -- 23 for room for an answer of another length: all stays as it was
 unfoldable pub framedIn : List ℕ → ℕ → List ℕ → List ℕ → List ℕ → ℕ × (List ℕ × (List ℕ × List ℕ))
-framedIn b id d m a = cond (not (eqb (length a) 36)) (23, (b, (m, a))) (told (frameIn b id d m))
+framedIn b id d m a = cond (not (eqb (length a) answerLength)) (23, (b, (m, a))) (told (frameIn b id d m))

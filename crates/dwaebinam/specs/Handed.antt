@@ -13,7 +13,7 @@ use Rattle.frame.specs.declared.judge.Route.{Route}
 use Rattle.frame.specs.declared.judge.Verdict.{Verdict}
 use Rattle.frame.specs.declared.judge.Verdict.the-variants as verdict
 use Rattle.frame.specs.declared.refusal.Refusal.the-variants.{FormatIndicator, OutOfBounds}
-use Rattle.multi_pg.specs.Groups.{Reading, good, bad, reading}
+use Rattle.multi_pg.specs.Groups.{GroupsRead, good, bad, groupsRead}
 use Rattle.transport.specs.declared.Key.{Key}
 use Rattle.transport.specs.declared.control.Control.{Control}
 use Rattle.transport.specs.declared.control.Control.the-variants as control
@@ -48,6 +48,7 @@ use Rattle.receiver.specs.Calls.{Outcome, isReady, slotOf, announceStep, status
 use Rattle.record_bytes.specs.Places.{headLength}
 use Rattle.record_bytes.specs.Layout.{piecesOf, slotAt, recordAt}
 use Rattle.record_bytes.specs.Pieces.{length-pieces}
+use Rattle.answer_bytes.specs.Places.{answerLength}
 use Rattle.answer_bytes.specs.Answers.{answerBytes}
 use Rattle.lent_record.specs.Ready.{readyIn}
 use Rattle.engine.specs.InBytes.{InBytes, outcomeIn, frameIn}
@@ -145,13 +146,13 @@ module _ (m : List ℕ) (whole : length m ≡ 32768) (r : Receiver) (eight : len
   data-fine (dataframe.Segment sg) k d = segment-fine _ (stateIn (slotFor k (r .slots)) (r .slots)) sg
   data-fine (dataframe.Refused n) k d = tt
 
-  groups-fine : (g : Reading) (route : Route) → LiesIn m m (groupsStep g route r .answer)
+  groups-fine : (g : GroupsRead) (route : Route) → LiesIn m m (groupsStep g route r .answer)
   groups-fine (good gs) route = tt
   groups-fine (bad n) route = tt
 
   verdict-fine : (v : Verdict) (d : List ℕ) → LiesIn m (onVerdict v r d m .1) (onVerdict v r d m .0 .answer)
   unfolding controlStep
-  verdict-fine (verdict.MultiPg route) d = groups-fine (reading d) route
+  verdict-fine (verdict.MultiPg route) d = groups-fine (groupsRead d) route
   verdict-fine (verdict.Control route) d = control-fine (controlOf d) (keyOf route d)
   verdict-fine (verdict.Data route) d = data-fine (dataFrameOf d) (keyOf route d) d
   verdict-fine (verdict.Refused n) d = tt
@@ -187,12 +188,12 @@ module _ (b : List ℕ) (id : ℕ) (d m : List ℕ) where
   frame-lies x e = subst (LiesIn m (frameIn b id d m .1 .1)) e seen-fine
 
   -- what is copied with the answer and the store that a frame left is the message that it handed over
-  pub handed-copied : (a out : List ℕ) (x : Message) → length a ≡ 36 → frameIn b id d m .0 ≡ answer.HandedOver x → x .total .0 ≤ length out
+  pub handed-copied : (a out : List ℕ) (x : Message) → length a ≡ answerLength → frameIn b id d m .0 ≡ answer.HandedOver x → x .total .0 ≤ length out
       → copiedIn (framedIn b id d m a .1 .1 .1) (framedIn b id d m a .1 .1 .0) out ≡ (x .total .0, messageBytes x m ++ drop (x .total .0) out)
   unfolding framedIn
   handed-copied a out x long e room =
       let l : Lies m (frameIn b id d m .1 .1) x = frame-lies x e in
-      let w : told (frameIn b id d m) ≡ framedIn b id d m a = else (not (eqb (length a) 36)) _ _ _ (ap not (eq-eqb _ _ long)) refl in
+      let w : told (frameIn b id d m) ≡ framedIn b id d m a = else (not (eqb (length a) answerLength)) _ _ _ (ap not (eq-eqb _ _ long)) refl in
       ap (λ (f : ℕ × (List ℕ × (List ℕ × List ℕ))). copiedIn (f .1 .1 .1) (f .1 .1 .0) out) (sym w)
       ∙ ap (λ (y : Answer). copiedIn (answerBytes y) (frameIn b id d m .1 .1) out) e
       ∙ ap (λ (s : List ℕ). copiedIn (answerBytes (answer.HandedOver x)) s out) (l .store)

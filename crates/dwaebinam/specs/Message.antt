@@ -9,21 +9,29 @@ use lib.ListN.{length, getD, drop, length-drop}
 use lib.Seq.{length-take-le}
 use borrow.Author.Tests.{eq-eqb, le-ltb}
 use Rattle.laws.specs.Choice.{else}
-use Rattle.answer.specs.Places.{messageCut}
-use Rattle.answer.specs.declared.Message.{Message}
+use Rattle.answer.specs.declared.place.Place.{Place}
+use Rattle.answer.specs.declared.place.Place.the-variants.{Message, Nowhere}
+use Rattle.answer.specs.Places.{messageCut, placeBytes}
+use Rattle.answer.specs.declared.Message as handed
 use Rattle.answer.specs.declared.Answer.the-variants.{HandedOver}
 use Rattle.answer.specs.Answers.{messageBytes}
 use Rattle.answer.specs.Lies.{message-lies}
 use Rattle.record_bytes.specs.Layout.{low32}
 use Rattle.record_bytes.specs.RoundTrip.{low32-read-back}
+use Rattle.answer_bytes.specs.Places.{answerLength, codePlace, extraPlace, totalPlace}
 use Rattle.answer_bytes.specs.Answers.{fieldsBytes, answerBytes}
 use Rattle.answer_bytes.specs.Sizes.{length-answer}
 
--- The message of an answer of code 5, by its slot and Total Bytes; no byte for any other answer, or where it does not lie in the store.
-unfoldable pub messageIn : List ℕ → List ℕ → List ℕ
-messageIn a store =
-    cond (not (eqb (length a) 36)) []
-    (cond (not (eqb (getD a 1 0) 5)) [] (messageCut store (getD a 6 0) (low32 a 11)))
+-- An answer of code 5 says the slot and Total Bytes of its message; any other answer, or bytes that are none, no place.
+unfoldable pub placeIn : List ℕ → Place
+placeIn a =
+    cond (not (eqb (length a) answerLength)) Nowhere
+    (cond (not (eqb (getD a codePlace 0) 5)) Nowhere
+    (Message (getD a extraPlace 0) (record { 0 = low32 a totalPlace })))
+
+-- no byte where the message does not lie in the store
+abbrev pub messageIn : List ℕ → List ℕ → List ℕ
+messageIn a store = placeBytes (placeIn a) [] store
 
 -- bytes put over the front of out where they fit: how many
 abbrev pub frontOf : List ℕ → List ℕ → ℕ × List ℕ
@@ -34,13 +42,13 @@ copiedIn a store out = frontOf (messageIn a store) out
 
 -- ---- the answer that hands a message over gives that message
 
-module _ (m : Message) (store : List ℕ) (slot : m .slot < 8) (total : m .total .0 ≤ 4096) (long : length store ≡ 32768) where
+module _ (m : handed.Message) (store : List ℕ) (slot : m .slot < 8) (total : m .total .0 ≤ 4096) (long : length store ≡ 32768) where
   pub message-in : messageIn (answerBytes (HandedOver m)) store ≡ messageBytes m store
-  unfolding messageIn fieldsBytes
+  unfolding placeIn fieldsBytes
   message-in =
       let s : m .slot % 256 ≡ m .slot = omega arith in
-      sym (else (not (eqb (length (answerBytes (HandedOver m))) 36)) _ _ _ (ap not (eq-eqb _ _ (length-answer (HandedOver m)))) refl)
-      ∙ ap (λ (k : ℕ). messageCut store k (low32 (answerBytes (HandedOver m)) 11)) s
+      ap (λ (p : Place). placeBytes p [] store) (sym (else (not (eqb (length (answerBytes (HandedOver m))) answerLength)) _ _ _ (ap not (eq-eqb _ _ (length-answer (HandedOver m)))) refl))
+      ∙ ap (λ (k : ℕ). messageCut store k (low32 (answerBytes (HandedOver m)) totalPlace)) s
       ∙ ap (messageCut store (m .slot)) (low32-read-back (m .total .0) (omega arith))
       ∙ message-lies m store store slot total long
 

@@ -22,6 +22,7 @@ use Rattle.receiver.specs.Calls.{endOf, slotEnd, stays, readingKept}
 use Rattle.lent_record.specs.Ready.{readyIn}
 use Rattle.engine.specs.declared.reading.ReadingAnswer.{ReadingAnswer}
 use Rattle.engine.specs.Elapsing.{readingIn}
+use Rattle.answer_bytes.specs.Places.{answerLength, answersLength, answerPlace}
 use Rattle.answer_bytes.specs.Answers.{fieldsBytes}
 use Rattle.answer_bytes.specs.Ends.{endBytes, endsBytes}
 use Rattle.answer_bytes.specs.EndLaws.{end-place, none-ends}
@@ -32,18 +33,19 @@ readBy x = (acceptanceNumber (x .0 .answer), (x .1, endsBytes (x .0 .ends)))
 
 -- 23 for room of another length: all stays as it was
 unfoldable pub readIn : List ℕ → ℕ → List ℕ → List ℕ → ℕ × (List ℕ × List ℕ)
-readIn b t m a = cond (not (eqb (length a) 288)) (23, (b, a)) (readBy (readingIn b t m))
+readIn b t m a = cond (not (eqb (length a) answersLength)) (23, (b, a)) (readBy (readingIn b t m))
 
 -- ---- a refused reading, and an ending
 
 -- 23 where the buffer is no record in bounds or the store has another length: the buffer keeps every byte, and no slot has an answer
-pub reading-refused : (b a m : List ℕ) (t : ℕ) → length a ≡ 288 → readyIn b (length m) ≡ false → readIn b t m a ≡ (23, (b, replicate 288 0))
+pub reading-refused : (b a m : List ℕ) (t : ℕ) → length a ≡ answersLength → readyIn b (length m) ≡ false
+    → readIn b t m a ≡ (23, (b, replicate answersLength 0))
 unfolding readIn readingIn
 reading-refused b a m t room e =
     let none : ReadingAnswer × List ℕ = (record { answer = acceptance.Refused OutOfBounds; ends = replicate 8 stays }, b) in
     let x : none ≡ readingIn b t m = else (readyIn b (length m)) _ _ _ e refl in
     sym
-    (else (not (eqb (length a) 288)) _ _ _ (ap not (eq-eqb _ _ room))
+    (else (not (eqb (length a) answersLength)) _ _ _ (ap not (eq-eqb _ _ room))
     (sym (ap readBy (sym x) ∙ ap (λ (l : List ℕ). (23, (b, l))) none-ends)))
 
 -- the answer of a session that ended by silence: number 22, and the code for an end
@@ -51,9 +53,9 @@ pub silence-says : (s : Session) → take 2 (endBytes (end.Ended (endingOf s Sil
 unfolding fieldsBytes
 silence-says s = refl
 
--- the answer of slot i, at 36 times i: by whether its session was silent for the idle limit
+-- the answer of slot i, at its place: by whether its session was silent for the idle limit
 pub reading-answer : (r : Receiver) (t i : ℕ) → i < length (r .slots)
-    → take 36 (drop (36 * i) (endsBytes (readingKept r t .ends))) ≡ endBytes (endOf (r .limit) t (getD (r .slots) i freeSlot .state))
+    → take answerLength (drop (answerPlace i) (endsBytes (readingKept r t .ends))) ≡ endBytes (endOf (r .limit) t (getD (r .slots) i freeSlot .state))
 reading-answer r t i h =
     let f : Slot → SlotEnd = slotEnd (r .limit) t in
     let n : length (map f (r .slots)) ≡ length (r .slots) = length-map (r .slots) f in

@@ -1,10 +1,10 @@
 // The calls that a program in C links: numbers and lent bytes go in and out (include/dwaebinam.h).
 ghost use mathlib.Core.Path.{_≡_};
 ghost use Rattle.frame.specs.Lengths.{leastLength};
-ghost use Rattle.dwaebinam.specs.Calls.{leastOr, openedIn, framedIn};
+ghost use Rattle.dwaebinam.specs.Calls.{boundaryVersion, leastOr, openedIn, framedIn};
 use answer::acceptance_number;
 use answer::number;
-use answer_bytes::ANSWER_BYTES;
+use answer_bytes::places::ANSWER_BYTES;
 use answer_bytes::write_answer;
 use engine::call::take_frame;
 use frame::Address;
@@ -13,6 +13,16 @@ use frame::length::least_length;
 use receiver::Receiver;
 use record_bytes::layout::write_record;
 use record_bytes::places::RECORD_BYTES;
+
+// The version of these calls, of their lengths, places and codes: what include/dwaebinam.h says must be the archive's.
+pub const VERSION: u32 = 1;
+
+#[no_mangle]
+pub extern "C" fn dwb_version() -> u32
+    ensures { λ r. ⌜ r ≡ boundaryVersion ⌝ }
+{
+    VERSION
+}
 
 // The least length of a frame that holds need bytes; 255 for more than 64.
 #[no_mangle]
@@ -51,7 +61,8 @@ pub extern "C" fn dwb_frame(
     store: &mut [u8],
     answer: &mut [u8],
 ) -> u8
-    ensures { λ x. ⌜ (x, (now (buffer .exit), (now (store .exit), now (answer .exit)))) ≡ framedIn (now (buffer .entry)) id (now (bytes .entry)) (now (store .entry)) (now (answer .entry)) ⌝ }
+    ensures { λ x. ⌜ (x, (now (buffer .exit), (now (store .exit), now (answer .exit))))
+        ≡ framedIn (now (buffer .entry)) id (now (bytes .entry)) (now (store .entry)) (now (answer .entry)) ⌝ }
 {
     if answer.len() != ANSWER_BYTES {
         return 23;

@@ -1,9 +1,12 @@
 // A message that is handed over, for a program in C (include/dwaebinam.h).
 ghost use mathlib.Core.Path.{_≡_};
-ghost use Rattle.dwaebinam.specs.Message.{messageIn, copiedIn};
+ghost use Rattle.dwaebinam.specs.Message.{placeIn, copiedIn};
 use answer::place::Place;
 use answer::place::bytes_of;
-use answer_bytes::ANSWER_BYTES;
+use answer_bytes::places::ANSWER_BYTES;
+use answer_bytes::places::CODE_AT;
+use answer_bytes::places::EXTRA_AT;
+use answer_bytes::places::TOTAL_AT;
 use frame::ByteCount;
 use octets::copy;
 use record_bytes::word::word_at;
@@ -17,21 +20,20 @@ fn slot_number(byte: u8) -> usize
     byte as usize
 }
 
-// The bytes of the message that an answer says; none for any other answer, or for a place that is not in the store.
-fn message_in<'a>(answer: &[u8], store: &'a [u8]) -> &'a [u8]
-    ensures { λ r. ⌜ now r ≡ messageIn (now (answer .entry)) (now (store .entry)) ⌝ }
+// Where the message of an answer is; nowhere for an answer that hands none over.
+fn place_in(answer: &[u8]) -> Place
+    ensures { λ r. ⌜ r ≡ placeIn (now (answer .entry)) ⌝ }
 {
     if answer.len() != ANSWER_BYTES {
-        return &store[..0];
+        return Place::Nowhere;
     }
-    if answer[1] != HANDED_OVER {
-        return &store[..0];
+    if answer[CODE_AT] != HANDED_OVER {
+        return Place::Nowhere;
     }
-    let place = Place::Message {
-        slot: slot_number(answer[6]),
-        total: ByteCount(word_at(answer, 11)),
-    };
-    bytes_of(place, store, store)
+    Place::Message {
+        slot: slot_number(answer[EXTRA_AT]),
+        total: ByteCount(word_at(answer, TOTAL_AT)),
+    }
 }
 
 // Copies the message of an answer into the front of out: its length. 0, with out as it was, where there is none or out is too short.
@@ -39,7 +41,7 @@ fn message_in<'a>(answer: &[u8], store: &'a [u8]) -> &'a [u8]
 pub extern "C" fn dwb_message(answer: &[u8], store: &[u8], out: &mut [u8]) -> usize
     ensures { λ r. ⌜ (r, now (out .exit)) ≡ copiedIn (now (answer .entry)) (now (store .entry)) (now (out .entry)) ⌝ }
 {
-    let bytes = message_in(answer, store);
+    let bytes = bytes_of(place_in(answer), &store[..0], store);
     let n = bytes.len();
     if out.len() < n {
         return 0;

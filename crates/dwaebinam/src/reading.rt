@@ -2,8 +2,8 @@
 ghost use mathlib.Core.Path.{_≡_};
 ghost use Rattle.dwaebinam.specs.Reading.{readIn};
 use answer::acceptance_number;
-use answer_bytes::ends::ANSWERS_BYTES;
 use answer_bytes::ends::write_ends;
+use answer_bytes::places::ANSWERS_BYTES;
 use engine::reading::take_reading;
 
 // Takes one reading: the record and the answers are written. 23 with zeros in answers where the buffer is no record in bounds, and with

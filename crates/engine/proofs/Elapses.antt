@@ -154,7 +154,8 @@ module _ (b : List ℕ) (t : ℕ) (m : List ℕ) (w : Bool) (ew : w ≡ readyIn 
         then (readyIn b (length m)) _ _ _ (sym ew ∙ not-false _ h)
         (ap (elapsedIn b) (then (isReady (recordAt b) m) _ _ _ (ready-step b m (sym ew ∙ not-false _ h)) refl))
 
-    pub reading-kept : Bytes b → (limit : ℕ) (x : List SlotEnd) (o₁ o₂ : List ℕ) → limit ≡ recordAt b .limit → _≡_ {A = List SlotEnd × List ℕ} (x, o₁) (slotsElapsed b limit t) → o₂ ≡ paste o₁ lastPlace (low4 t []) 4
+    pub reading-kept : Bytes b → (limit : ℕ) (x : List SlotEnd) (o₁ o₂ : List ℕ) → limit ≡ recordAt b .limit
+        → _≡_ {A = List SlotEnd × List ℕ} (x, o₁) (slotsElapsed b limit t) → o₂ ≡ paste o₁ lastPlace (low4 t []) 4
         → _≡_ {A = ReadingAnswer × List ℕ} (record { answer = acceptance.Accepted; ends = x }, o₂) (readingIn b t m)
     reading-kept y limit x o₁ o₂ el e e₂ =
         let f : List SlotEnd × List ℕ → ReadingAnswer × List ℕ =

@@ -12,7 +12,7 @@ use Rattle.frame.specs.declared.Address.{Address}
 use Rattle.frame.specs.declared.judge.Route.{Route}
 use Rattle.frame.specs.declared.judge.Verdict.{Verdict}
 use Rattle.frame.specs.declared.refusal.Refusal.the-variants.{OutOfBounds}
-use Rattle.multi_pg.specs.Groups.{Reading, good, bad, judgementOf}
+use Rattle.multi_pg.specs.Groups.{GroupsRead, good, bad, judgementOf}
 use Rattle.answer.specs.declared.Answer.{Answer}
 use Rattle.answer.specs.declared.Answer.the-variants.{Groups, Refused}
 use Rattle.receiver.specs.Bounds.{inBounds}
@@ -56,6 +56,6 @@ module _ (b m : List ℕ) (h : Holds b) where
   pub seen-same : (a : Answer) → _≡_ {A = InBytes} (a, (b, m)) (outcomeIn b (answered (recordAt b) a, m))
   seen-same a = ap (λ (l : List ℕ). (a, (l, m))) (sym (keep b (h .bytes) (h .codes)))
 
-  pub by-groups : (a : Answer) (x : Reading) (route : Route) → a ≡ groupsAnswer (judgementOf x) route → _≡_ {A = InBytes} (a, (b, m)) (outcomeIn b (groupsStep x route (recordAt b), m))
+  pub by-groups : (a : Answer) (x : GroupsRead) (route : Route) → a ≡ groupsAnswer (judgementOf x) route → _≡_ {A = InBytes} (a, (b, m)) (outcomeIn b (groupsStep x route (recordAt b), m))
   by-groups a (good gs) route e = ap (λ (y : Answer). (y, (b, m))) e ∙ seen-same (Groups route)
   by-groups a (bad n) route e = ap (λ (y : Answer). (y, (b, m))) e ∙ seen-same (Refused n)

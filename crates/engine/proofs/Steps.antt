@@ -2,10 +2,13 @@
 use Prim.Native.Nat.{ℕ, _+_, _≤_}
 use native.Mathlib.Omega.{arith}
 use mathlib.Core.Path.{_≡_, refl, sym, ap, subst, _∙_}
-use mathlib.Core.Bool.{true}
+use mathlib.Core.Bool.{Bool, true, false, cond, not}
+use lib.Dec.{eqb}
 use mathlib.Core.List.{List, [], _∷_}
 use lib.ListN.{length}
 use Rattle.laws.specs.Choice.{each-of}
+use Rattle.frame.specs.declared.refusal.Refusal.the-variants.{KeyNotOpen, FormatIndicator}
+use Rattle.transport.specs.declared.Key.{Key}
 use Rattle.transport.specs.declared.segment.Segment.{Segment}
 use Rattle.answer.specs.declared.Answer.{Answer}
 use Rattle.progress.specs.declared.Progress.{Progress}
@@ -16,17 +19,18 @@ use Rattle.session.specs.declared.Change.{Change}
 use Rattle.session.specs.declared.Change.the-variants.{Stays, Opens, Moves, Ends}
 use Rattle.session.specs.declared.Step.{Step}
 use Rattle.session.specs.Bounds.{announcedOk, keyOk, progressOk}
-use Rattle.session.specs.Decisions.{segmentTo}
+use Rattle.session.specs.Decisions.{segmentTo, refused}
 use Rattle.session.specs.Laws.{announced-agreed, takes-in-turn, taken-inside}
 use Rattle.session.specs.Steps.{MeetsOpen, moves-takes}
 use Rattle.slots.specs.declared.Found.{Found}
 use Rattle.slots.specs.declared.Found.the-variants.{At, Nothing}
-use Rattle.slots.specs.Slots.{stateIn}
+use Rattle.slots.specs.Slots.{keyPlace, firstFree, orElse, stateIn}
+use Rattle.slots.specs.Searches.{lowest-some}
 use Rattle.slots.specs.Bounds.{openingOk, slotsOk}
 use Rattle.slots.specs.Facts.{session-of}
 use Rattle.receiver.specs.declared.Receiver.{Receiver}
 use Rattle.receiver.specs.Bounds.{inBounds}
-use Rattle.receiver.specs.Calls.{apply, stored, storedBy}
+use Rattle.receiver.specs.Calls.{Stepped, Outcome, apply, stored, storedBy, segmentStep}
 use Rattle.record_bytes.specs.Layout.{recordAt}
 use Rattle.engine.specs.InBytes.{steppedIn}
 use Rattle.engine.specs.Placed.{Placed, PlacedBy}
@@ -112,3 +116,40 @@ module _ (c : Change) (f : Found) (x : State) (n : ℕ) (d m : List ℕ) (p : Pr
 
     pub stored-at : (s : Session) → x ≡ Open s → (o : List ℕ) → o ≡ stored i s n d m → o ≡ storedBy c f x n d m
     stored-at s ex o e = by-state (Open s) ex o e
+
+-- ---- a segment looks for the slot that has its key open, and for no free one
+
+-- a segment's step at a slot, whichever it is, of what is known of the key there
+abbrev segmentOf : Receiver → Found → State → Segment → List ℕ → List ℕ → Outcome
+segmentOf r f x sg d m =
+    let st : Step = segmentTo x sg (r .last) in
+    (apply r f st, storedBy (st .change) f x (sg .number .0) d m)
+
+abbrev pub segmentAt : Receiver → Found → Segment → List ℕ → List ℕ → Outcome
+segmentAt r f sg d m = segmentOf r f (stateIn f (r .slots)) sg d m
+
+module _ (r : Receiver) (k : Key) (sg : Segment) (d m : List ℕ) where
+  -- with no session open nothing is written, wherever it is
+  closed-anywhere : (i : ℕ) → segmentOf r Nothing Closed sg d m ≡ segmentOf r (At i) Closed sg d m
+  unfolding segmentTo
+  closed-anywhere i = go (not (eqb (sg .format) 0))
+    where
+      by : Found → Step → Outcome
+      by f st = (apply r f st, storedBy (st .change) f Closed (sg .number .0) d m)
+
+      go : (t : Bool) → by Nothing (cond t (refused FormatIndicator) (refused KeyNotOpen)) ≡ by (At i) (cond t (refused FormatIndicator) (refused KeyNotOpen))
+      go true = refl
+      go false = refl
+
+  free-closed : (g : Found) → firstFree (r .slots) ≡ g → segmentAt r Nothing sg d m ≡ segmentAt r g sg d m
+  free-closed Nothing e = refl
+  free-closed (At i) e =
+      closed-anywhere i ∙ ap (λ (x : State). segmentOf r (At i) x sg d m) (sym (lowest-some (r .slots) i e .0))
+
+  pub by-key : segmentAt r (keyPlace k (r .slots)) sg d m ≡ segmentStep r k sg d m
+  unfolding segmentStep
+  by-key = go (keyPlace k (r .slots))
+    where
+      go : (f : Found) → segmentAt r f sg d m ≡ segmentAt r (orElse f (firstFree (r .slots))) sg d m
+      go (At i) = refl
+      go Nothing = free-closed (firstFree (r .slots)) refl

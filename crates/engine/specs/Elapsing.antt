@@ -22,7 +22,7 @@ slotElapsed b i limit t = (
   paste b (slotPlace i) (kept (getD (piecesOf b) i []) (expired limit t (getD (slotsAt b) i freeSlot))) slotLength,
 )
 
--- all slots, behind the head as it was
+-- all slots, after the head as it was
 abbrev pub slotsElapsed : List ℕ → ℕ → ℕ → List SlotEnd × List ℕ
 slotsElapsed b limit t =
     (map (slotEnd limit t) (slotsAt b), take headLength b ++ merged (piecesOf b) (map (expired limit t) (slotsAt b)))

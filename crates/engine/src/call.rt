@@ -1,6 +1,6 @@
 // A frame taken by the record that a lent buffer holds: 23, 2, 1, 3, then 9 and the rest by kind (01, "Numbered refusals").
 ghost use mathlib.Core.Path.{_≡_};
-ghost use Rattle.multi_pg.specs.Groups.{judgementOf, reading};
+ghost use Rattle.multi_pg.specs.Groups.{judgementOf, groupsRead};
 ghost use Rattle.engine.specs.InBytes.{groupsAnswer, frameIn};
 use super::control::control;
 use super::segment::data_frame;
@@ -16,7 +16,7 @@ use multi_pg::read;
 
 // A Multi-PG frame, judged whole; the record is not looked at.
 fn groups(route: Route, bytes: &[u8]) -> Answer
-    ensures { λ x. ⌜ x ≡ groupsAnswer (judgementOf (reading (now (bytes .entry)))) route ⌝ }
+    ensures { λ x. ⌜ x ≡ groupsAnswer (judgementOf (groupsRead (now (bytes .entry)))) route ⌝ }
 {
     match read::judge(bytes) {
         Judgement::Good => Answer::Groups(route),

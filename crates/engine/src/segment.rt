@@ -17,7 +17,7 @@ use super::apply::apply;
 use answer::Answer;
 use frame::SegmentNumber;
 use frame::judge::Route;
-use lent_record::search::slot_for;
+use lent_record::search::find_key;
 use lent_record::search::state_in;
 use record_bytes::places::LAST_AT;
 use record_bytes::word::word_at;
@@ -63,12 +63,14 @@ fn store_taken(store: &mut [u8], change: Change, f: Found, x: State, n: SegmentN
     }
 }
 
-// A segment of the key.
+// A segment of the key. One whose key is not open changes nothing, so no free slot is looked for.
 fn segment(buffer: &mut [u8], k: Key, sg: Segment, bytes: &[u8], store: &mut [u8]) -> Answer
-    requires { ⌜ (inBounds (recordAt (now buffer)) ≡ true) × (sg .number .0 < 16777216) × (4 + sg .room ≤ length (now bytes)) × (length (now store) ≡ 32768) × (length (now buffer) ≡ recordLength) × Holds (now buffer) ⌝ }
-    ensures { λ x. ⌜ (x, (now (buffer .exit), now (store .exit))) ≡ outcomeIn (now (buffer .entry)) (segmentStep (recordAt (now (buffer .entry))) k sg (now (bytes .entry)) (now (store .entry))) ⌝ }
+    requires { ⌜ (inBounds (recordAt (now buffer)) ≡ true) × (sg .number .0 < 16777216) × (4 + sg .room ≤ length (now bytes))
+        × (length (now store) ≡ 32768) × (length (now buffer) ≡ recordLength) × Holds (now buffer) ⌝ }
+    ensures { λ x. ⌜ (x, (now (buffer .exit), now (store .exit)))
+        ≡ outcomeIn (now (buffer .entry)) (segmentStep (recordAt (now (buffer .entry))) k sg (now (bytes .entry)) (now (store .entry))) ⌝ }
 {
-    let f = slot_for(buffer, k);
+    let f = find_key(buffer, k);
     let x = state_in(buffer, f);
     let step = segment::segment(x, sg, word_at(buffer, LAST_AT));
     let change = step.change;
@@ -79,7 +81,10 @@ fn segment(buffer: &mut [u8], k: Key, sg: Segment, bytes: &[u8], store: &mut [u8
 
 pub fn data_frame(buffer: &mut [u8], route: Route, bytes: &[u8], store: &mut [u8]) -> Answer
     requires { ⌜ (inBounds (recordAt (now buffer)) ≡ true) × (length (now store) ≡ 32768) × (length (now buffer) ≡ recordLength) × Holds (now buffer) ⌝ }
-    ensures { λ x. ⌜ (x, (now (buffer .exit), now (store .exit))) ≡ outcomeIn (now (buffer .entry)) (onData (dataFrameOf (now (bytes .entry))) (recordAt (now (buffer .entry))) (keyOf route (now (bytes .entry))) (now (bytes .entry)) (now (store .entry))) ⌝ }
+    ensures { λ x. ⌜ (x, (now (buffer .exit), now (store .exit)))
+        ≡ outcomeIn (now (buffer .entry))
+        (onData (dataFrameOf (now (bytes .entry))) (recordAt (now (buffer .entry))) (keyOf route (now (bytes .entry))) (now (bytes .entry))
+        (now (store .entry))) ⌝ }
 {
     let k = key_of(route, bytes);
     match read_segment(bytes) {

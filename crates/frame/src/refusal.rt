@@ -3,7 +3,7 @@ ghost use mathlib.Core.Path.{_≡_};
 ghost use Rattle.frame.specs.Refusals.{numberOf};
 
 pub enum Refusal {
-    // 1: a length that CAN FD has not
+    // 1: a length that CAN FD does not have
     FrameLength,
     // 2: an identifier above 29 bits
     IdentifierRange,

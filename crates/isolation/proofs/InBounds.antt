@@ -50,7 +50,9 @@ unfolding holds
 alone-true n is.Closed l b h = refl
 alone-true n (is.Open s) l b h =
     let e : keyAt (keyNumber (s .announced .key)) ≡ s .announced .key = key-of (s .announced .key) (b .small s refl) in
-    ap not (subst (λ (κ : Key). anyHolds κ l ≡ false) e (sym (any-same (keyNumber (s .announced .key)) l) ∙ h (keyNumber (s .announced .key)) (keys-same (s .announced .key) (keyAt (keyNumber (s .announced .key))) (sym e))))
+    ap not (subst (λ (κ : Key). anyHolds κ l ≡ false) e
+    (sym (any-same (keyNumber (s .announced .key)) l)
+    ∙ h (keyNumber (s .announced .key)) (keys-same (s .announced .key) (keyAt (keyNumber (s .announced .key))) (sym e))))
 
 true-alone : (x : State) (l : Slots) → not (stateTwin x l) ≡ true → (k : ℕ) → holds k x ≡ true → any k l ≡ false
 true-alone is.Closed l h k e = absurd (clash (holds k is.Closed) e (holds-free k))

@@ -12,7 +12,16 @@ pub mod Read
 pub mod Many
 pub mod InBounds
 pub mod Run
+pub mod Foreign
 pub mod Refused
+pub mod Opening
+pub mod Lowest
+pub mod StoreKept
+pub mod Handed
+pub mod Faults
+pub mod Own
+pub mod Elapsed
+pub mod Limits
 pub mod Demand3
 pub mod Message
 pub mod Table

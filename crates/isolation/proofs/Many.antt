@@ -38,14 +38,15 @@ use Rattle.isolation.specs.Rules.{Values, Open, Out, isOpen, rule, judge
 use Rattle.isolation.specs.World.{frame, clock, lent, World, eightOthers, isAnnouncement, seesBody, sees, after, worldAfter}
 use Rattle.isolation.specs.Observe.{replyOf, lost, isBody, isOwn, strays, frameSeen, endingOf, endingsOf, readingSeen}
 use Rattle.isolation.proofs.Tests.{or-false, clash, and-left, or-1}
-use Rattle.isolation.proofs.Slots.{Slots, at, holds, holds-free, holds-one, keyNumber, Small, find-some, find-none, lowest-some, lowest-none, Unique}
+use Rattle.slots.specs.Searches.{lowest-some, lowest-none}
+use Rattle.isolation.proofs.Slots.{Slots, at, holds, holds-free, holds-one, keyNumber, Small, find-some, find-none, Unique}
 use Rattle.isolation.proofs.Count.{count-same}
 use Rattle.isolation.proofs.Bytes.{part}
 use Rattle.isolation.proofs.Opened.{any, any-from, any-none, others, others-less, others-all, Bounded, count-others}
 use Rattle.isolation.proofs.Fit.{recordOf, Ses, Place, Moves, Stays, Tied, Fit, applies}
 use Rattle.isolation.proofs.Single.{Mine, asked, leaves, bodyStep, Reads, held-tied, shut-tied}
 use Rattle.isolation.proofs.Silent.{ses-key, ses-shut, expire-ses, expire-holds, ends-own, ends-other}
-use Rattle.isolation.proofs.Read.{Foreign, Takes, Agrees, frame-mine}
+use Rattle.isolation.proofs.Read.{Foreign, Takes, Agrees, plain-quiet, frame-mine}
 
 -- the receiver's record and store, and the world of rules
 pub record Sim (v : Values) (r : Receiver) (m : List ℕ) (w : World) : Type 0 where
@@ -150,7 +151,8 @@ unchanged v r m w r′ m′ e f sim = rw (e, f) sim
 
 session-bounded : (own : Address) (s : Session) → own .0 ≤ 253 → sessionOk own s ≡ true → Small (s .announced .key) × (keyNumber (s .announced .key) < allKeys)
 session-bounded own s h ok =
-    let t = each-of (leb (s .announced .key .sa .0) 253 ∷ not (eqb (s .announced .key .sa .0) (own .0)) ∷ eqb (s .announced .key .da .0) (cond (isRts (s .announced .kind)) (own .0) 255) ∷ leb (s .announced .key .session .0) 15 ∷ []) (sound-of own s ok .key) in
+    let t = each-of (leb (s .announced .key .sa .0) 253 ∷ not (eqb (s .announced .key .sa .0) (own .0)) ∷ eqb (s .announced .key .da .0)
+    (cond (isRts (s .announced .kind)) (own .0) 255) ∷ leb (s .announced .key .session .0) 15 ∷ []) (sound-of own s ok .key) in
     let a : s .announced .key .sa .0 ≤ 253 = leb-true (s .announced .key .sa .0) 253 (t .0) in
     let b : s .announced .key .da .0 ≤ 255 = rw (eqb-true (s .announced .key .da .0) (cond (isRts (s .announced .kind)) (own .0) 255) (t .1 .1 .0)) (either (isRts (s .announced .kind))) in
     let c : s .announced .key .session .0 ≤ 15 = leb-true (s .announced .key .session .0) 15 (t .1 .1 .1 .0) in
@@ -372,7 +374,7 @@ module _ (v : Values) (r : Receiver) (m : List ℕ) (w : World) (sim : Sim v r m
   foreign-keeps body o f = record {
     next = unchanged v r m (worldAfter v w (lent (frame id d))) (o .0 .next) (o .1) (ap (λ (z : Outcome). z .0 .next) (f .same)) (ap (λ (z : Outcome). z .1) (f .same))
         (same-sim v r m w (worldAfter v w (lent (frame id d))) sim (λ j. rw body) (λ j. rw body));
-    says = λ k. rw (body, f .same, f .quiet k, unchanged-lost k);
+    says = λ k. rw (body, f .same, plain-quiet (f .answer) (f .plain) k, unchanged-lost k);
   }
     where
       unchanged-lost : (k : ℕ) → lost k r r ≡ false

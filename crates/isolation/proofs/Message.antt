@@ -9,7 +9,7 @@ use native.Mathlib.Decide.{ℕ-discrete}
 use lib.Dec.{eqb, ltb}
 use lib.ListN.{length, take, length-take, length-append}
 use borrow.Author.Tests.{ltb-false, eqb-true, eqb-false, eq-eqb, ne-eqb, not-false}
-use Rattle.frame.specs.Pgn.{pgnOk}
+use Rattle.isolation.specs.Standard.{Cause, pgnWrong, numbersWrong, tooLong, assured, keyOpen, eightOpen, inPgnForm}
 use Rattle.transport.specs.declared.control.Announcement.{Announcement}
 use Rattle.transport.specs.declared.control.Status.{Status}
 use Rattle.session.specs.Segments.{dueOf}
@@ -81,7 +81,7 @@ announce-keeps v k last eight x a h =
     keeps-cond (eqb (a .total .0) 0 || (not (eqb (a .segments .0) (sixties (a .total .0))) || (F.isRts (a .kind) && eqb (a .max) 0))) _ _ (λ _. h) (λ bad.
     keeps-cond (ltb 4096 (a .total .0)) _ _ (λ _. h) (λ _.
     keeps-cond (not (eqb (a .assurance) 0)) _ _ (λ _. h) (λ _.
-    keeps-cond (not (pgnOk (a .pgn))) _ _ (λ _. h) (λ _.
+    keeps-cond (not (inPgnForm (a .pgn))) _ _ (λ _. h) (λ _.
     keeps-cond (isOpen x) _ _ (λ _. h) (λ _.
     keeps-cond eight _ _ (λ _. h) (λ _.
     record {
@@ -102,7 +102,9 @@ segment-keeps k last ρ n d h =
     let l₂ : n ≤ length (ρ .pieces) + 1 = ltb-false (length (ρ .pieces) + 1) n (or-left (ltb (nextOf ρ) n) (ltb (ρ .told .segments .0) n) b) in
     let l₃ : n ≤ ρ .told .segments .0 = ltb-false (ρ .told .segments .0) n (or-right (ltb (nextOf ρ) n) (ltb (ρ .told .segments .0) n) b) in
     let l₄ : due (ρ .told .total .0) n ≤ length d = ltb-false (length d) (due (ρ .told .total .0) n) c in
-    let l₁ : n ≤ length (ρ .pieces) → ⊥ = (λ u. clash (isTaken n (ρ .pieces)) (taken-in (ρ .told .total .0) (ρ .pieces) (h .filled) n (omega arith) u) (or-right (eqb n 0) (isTaken n (ρ .pieces)) a)) in
+    let l₁ : n ≤ length (ρ .pieces)
+    → ⊥ = (λ u. clash (isTaken n (ρ .pieces)) (taken-in (ρ .told .total .0) (ρ .pieces) (h .filled) n (omega arith) u)
+    (or-right (eqb n 0) (isTaken n (ρ .pieces)) a)) in
     let e : n ≡ suc (length (ρ .pieces)) = next n (length (ρ .pieces)) l₁ l₂ in
     record {
       count = h .count;
@@ -179,20 +181,21 @@ quiet-reply : (t : Bool) (p q : Reply) → isHanded (p .says) ≡ false → isHa
 quiet-reply true p q a b = a
 quiet-reply false p q a b = b
 
-reject-quiet : (k : ℕ) (a : Announcement) (n : ℕ) → isHanded (reject k a n .says) ≡ false
+reject-quiet : (k : ℕ) (a : Announcement) (c : Cause) → isHanded (reject k a c .says) ≡ false
 unfolding reject
-reject-quiet k a n = quiet-reply (F.isRts (a .kind)) _ _ refl refl
+reject-quiet k a c = quiet-reply (F.isRts (a .kind)) _ _ refl refl
 
-announce-hands : (v : Values) (k last : ℕ) (eight : Bool) (x : Option Open) (a : Announcement) → isHanded (announced (v .own) k last eight x a .1 .says) ≡ true → Hands k x (announced (v .own) k last eight x a)
+announce-hands : (v : Values) (k last : ℕ) (eight : Bool) (x : Option Open) (a : Announcement)
+    → isHanded (announced (v .own) k last eight x a .1 .says) ≡ true → Hands k x (announced (v .own) k last eight x a)
 unfolding announced opens cts
 announce-hands v k last eight x a =
     hands-cond k x (R.misdirected (v .own) k (a .kind)) _ _ (λ _. not-handed k x _ refl) (λ _.
-    hands-cond k x (R.badNumbers a) _ _ (λ _. not-handed k x _ (reject-quiet k a 11)) (λ _.
-    hands-cond k x (ltb 4096 (a .total .0)) _ _ (λ _. not-handed k x _ (reject-quiet k a 12)) (λ _.
-    hands-cond k x (not (eqb (a .assurance) 0)) _ _ (λ _. not-handed k x _ (reject-quiet k a 13)) (λ _.
-    hands-cond k x (not (pgnOk (a .pgn))) _ _ (λ _. not-handed k x _ (reject-quiet k a 8)) (λ _.
-    hands-cond k x (isOpen x) _ _ (λ _. not-handed k x _ (reject-quiet k a 14)) (λ _.
-    hands-cond k x eight _ _ (λ _. not-handed k x _ (reject-quiet k a 15)) (λ _.
+    hands-cond k x (R.badNumbers a) _ _ (λ _. not-handed k x _ (reject-quiet k a numbersWrong)) (λ _.
+    hands-cond k x (ltb 4096 (a .total .0)) _ _ (λ _. not-handed k x _ (reject-quiet k a tooLong)) (λ _.
+    hands-cond k x (not (eqb (a .assurance) 0)) _ _ (λ _. not-handed k x _ (reject-quiet k a assured)) (λ _.
+    hands-cond k x (not (inPgnForm (a .pgn))) _ _ (λ _. not-handed k x _ (reject-quiet k a pgnWrong)) (λ _.
+    hands-cond k x (isOpen x) _ _ (λ _. not-handed k x _ (reject-quiet k a keyOpen)) (λ _.
+    hands-cond k x eight _ _ (λ _. not-handed k x _ (reject-quiet k a eightOpen)) (λ _.
     not-handed k x _ (quiet-reply (F.isRts (a .kind)) _ _ refl refl))))))))
 
 segment-hands : (k last : ℕ) (ρ : Open) (n : ℕ) (d : List ℕ) → isHanded (segmentOpen k last ρ n d .1 .says) ≡ true → Hands k (some ρ) (segmentOpen k last ρ n d)
@@ -215,7 +218,10 @@ all-joined ρ h e =
 status-hands : (k : ℕ) (ρ : Open) (s : Status) → Whole ρ → isHanded (statusOpen k ρ s .1 .says) ≡ true → Hands k (some ρ) (statusOpen k ρ s)
 unfolding statusOpen asAnnounced ending
 status-hands k ρ s h =
-    hands-cond k (some ρ) (eqb (length (ρ .pieces)) (ρ .told .segments .0) && (eqb (s .total .0) (ρ .told .total .0) && (eqb (s .segments .0) (ρ .told .segments .0) && (eqb (s .assurance) (ρ .told .assurance) && eqb (s .pgn) (ρ .told .pgn))))) _ _
+    hands-cond k (some ρ)
+    (eqb (length (ρ .pieces)) (ρ .told .segments .0) &&
+    (eqb (s .total .0) (ρ .told .total .0) &&
+    (eqb (s .segments .0) (ρ .told .segments .0) && (eqb (s .assurance) (ρ .told .assurance) && eqb (s .pgn) (ρ .told .pgn))))) _ _
     (λ t _. record {
       session = ρ;
       was = refl;

@@ -90,7 +90,9 @@ count-open n k s l b a = go (ℕ-discrete (keyNumber (s .announced .key)) k)
     go (yes e) = rw (eq-eqb (keyNumber (s .announced .key)) k e) (count-same p q n (λ j _. same e j (ℕ-discrete j k)))
     go (no e) =
         rw (ne-eqb (keyNumber (s .announced .key)) k e)
-        (count-one p q (keyNumber (s .announced .key)) n b (rw (eq-eqb (keyNumber (s .announced .key)) (keyNumber (s .announced .key)) refl, ne-eqb (keyNumber (s .announced .key)) k e)) (rw a) (λ j z. rw (ne-eqb (keyNumber (s .announced .key)) j (λ y. z (sym y)))))
+        (count-one p q (keyNumber (s .announced .key)) n b
+        (rw (eq-eqb (keyNumber (s .announced .key)) (keyNumber (s .announced .key)) refl, ne-eqb (keyNumber (s .announced .key)) k e)) (rw a)
+        (λ j z. rw (ne-eqb (keyNumber (s .announced .key)) j (λ y. z (sym y)))))
 
 -- one slot before the rest
 count-head : (n k : ℕ) (x : State) (l : Slots) → Bounded n x → ((j : ℕ) → holds j x ≡ true → any j l ≡ false)
@@ -101,7 +103,9 @@ count-head n k Closed l b a = refl
 count-head n k (Open s) l b a =
     let σ : Small (s .announced .key) = b .small s refl in
     count-same _ _ n (λ j _. ap (λ (t : Bool). (t || any j l) && not (eqb j k)) (same-number (s .announced .key) σ j))
-    ∙ count-open n k s l (b .below s refl) (a (keyNumber (s .announced .key)) (same-number (s .announced .key) σ (keyNumber (s .announced .key)) ∙ eq-eqb (keyNumber (s .announced .key)) (keyNumber (s .announced .key)) refl))
+    ∙ count-open n k s l (b .below s refl)
+    (a (keyNumber (s .announced .key))
+    (same-number (s .announced .key) σ (keyNumber (s .announced .key)) ∙ eq-eqb (keyNumber (s .announced .key)) (keyNumber (s .announced .key)) refl))
     ∙ ap (λ (t : Bool). cond t (count (λ j. any j l && not (eqb j k)) n) (suc (count (λ j. any j l && not (eqb j k)) n))) (sym (same-number (s .announced .key) σ k))
 
 count-nothing : (n : ℕ) → count (λ j. false) n ≡ 0

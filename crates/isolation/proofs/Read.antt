@@ -7,7 +7,7 @@ use mathlib.Core.List.{List}
 use native.Mathlib.Omega.{arith}
 use lib.Dec.{eqb, leb, ltb}
 use lib.ListN.{length, length-drop}
-use borrow.Author.Tests.{ltb-true, eqb-true, eqb-false, ne-eqb, not-true, leb-false, lt-ltb, lt-leb}
+use borrow.Author.Tests.{ltb-true, eqb-true, eqb-false, ne-eqb, not-true, leb-true, leb-false, lt-ltb, lt-leb}
 use Rattle.frame.specs.declared.Address.{Address}
 use Rattle.frame.specs.declared.judge.Route.{Route}
 use Rattle.frame.specs.declared.judge.Verdict.{Verdict}
@@ -17,13 +17,13 @@ use Rattle.frame.specs.declared.refusal.Refusal.the-variants.{FrameLength, Iden
 use Rattle.frame.specs.Identifiers.{identifierOf}
 use Rattle.frame.specs.Lengths.{isLength}
 use Rattle.frame.specs.Judge.{routeTaken, byFormat, routeOf, judged}
-use Rattle.multi_pg.specs.Groups.{tos, tf, pgnAt, dataLength, stepAt, Reading, good, bad, after, onStep, readFrom, reading}
+use Rattle.multi_pg.specs.Groups.{tos, tf, pgnAt, dataLength, stepAt, GroupsRead, good, bad, after, onStep, readFrom, groupsRead}
 use Rattle.multi_pg.specs.declared.Group.{Group}
 use Rattle.multi_pg.specs.declared.Step.{Step}
 use Rattle.multi_pg.specs.declared.Step.the-variants as step
 use Rattle.frame.specs.Pgn.{lowByteOk}
 use Rattle.frame.specs.Refusals.{numberOf}
-use Rattle.answer.specs.Answers.{answerNumber}
+use Rattle.answer.specs.Answers.{answerNumber, answerSends}
 use Rattle.transport.specs.declared.Key.{Key}
 use Rattle.transport.specs.declared.control.Control.{Control}
 use Rattle.transport.specs.declared.segment.DataFrame.the-variants as dataframe
@@ -33,6 +33,7 @@ use Rattle.receiver.specs.declared.Receiver.{Receiver}
 use Rattle.answer.specs.declared.Answer.{Answer}
 use Rattle.answer.specs.declared.Answer.the-variants as answer
 use Rattle.receiver.specs.Calls.{Outcome, answered, refused, announceStep, statusStep, abortStep, segmentStep, onVerdict, groupsStep, controlStep, onControl, onData}
+use Rattle.isolation.specs.Standard.{fdLengths, isOneOf}
 use Rattle.isolation.specs.OwnFrames as F
 use Rattle.isolation.specs.OwnFrames.{keyAt, frameKey, Body, segment, controlBody, dataBody, bodyOf}
 use Rattle.session.specs.Effects.{mild}
@@ -40,14 +41,29 @@ use Rattle.isolation.specs.Rules.{Values}
 use Rattle.isolation.specs.Observe.{touches}
 use Rattle.isolation.proofs.Tests.{and-left, and-right, both, same-test}
 use Rattle.isolation.proofs.Slots.{key-of}
+use Rattle.isolation.proofs.Same.{length-same}
 use Rattle.isolation.proofs.Single.{Mine, bodyStep, Reads}
+
+-- groups, or a refusal that names no key
+pub data Plain (a : Answer) : Type 0 where
+  groups : (ρ : Route) → a ≡ answer.Groups ρ → Plain a
+  refusal : (n : Refusal) → a ≡ answer.Refused n → Plain a
 
 -- a frame that is no session's own: it is answered, and nothing changes
 pub record Foreign (r : Receiver) (m : List ℕ) (o : Outcome) : Type 0 where
   pub answer : Answer
   pub same : o ≡ (answered r answer, m)
-  pub quiet : (j : ℕ) → touches j answer ≡ false
+  pub plain : Plain answer
   pub mildly : mild (answerNumber answer) ≡ true
+
+pub plain-quiet : (a : Answer) → Plain a → (j : ℕ) → touches j a ≡ false
+unfolding touches
+plain-quiet a (groups ρ e) j = rw e
+plain-quiet a (refusal n e) j = rw e
+
+pub plain-sends : (a : Answer) → Plain a → answerSends a ≡ none
+plain-sends a (groups ρ e) = rw e
+plain-sends a (refusal n e) = rw e
 
 -- the receiver does with the frame what its key's body asks
 abbrev pub Takes : Receiver → List ℕ → List ℕ → Key → Outcome → Option Body → Type 0
@@ -58,8 +74,7 @@ pub record Agrees (r : Receiver) (d m : List ℕ) (κ : Key) (o : Outcome) (b : 
   pub does : Takes r d m κ o b
 
 foreign : (r : Receiver) (m : List ℕ) (n : Refusal) → mild (numberOf n) ≡ true → Foreign r m (refused r n, m)
-unfolding touches
-foreign r m n e = record { answer = answer.Refused n; same = refl; quiet = λ j. refl; mildly = e }
+foreign r m n e = record { answer = answer.Refused n; same = refl; plain = refusal n refl; mildly = e }
 
 module _ (r : Receiver) (d m : List ℕ) (κ : Key) where
   agree-control : (c c′ : Control) (b b′ : Option Body) (t : Bool) → Agrees r d m κ (onControl c r κ, m) b → Agrees r d m κ (onControl c′ r κ, m) b′
@@ -81,7 +96,8 @@ module _ (r : Receiver) (d m : List ℕ) (κ : Key) where
   unfolding dataFrameOf dataBody segmentStep
   data-agrees = go (ltb (length d) 5)
     where
-      go : (t : Bool) → Agrees r d m κ (onData (cond t (dataframe.Refused TransferLength) (dataframe.Segment (segmentAt d))) r κ d m) (cond t none (some (segment (formatAt d) (numberAt d) (dataAt d))))
+      go : (t : Bool) → Agrees r d m κ (onData (cond t (dataframe.Refused TransferLength) (dataframe.Segment (segmentAt d))) r κ d m)
+          (cond t none (some (segment (formatAt d) (numberAt d) (dataAt d))))
       go true = record { does = foreign r m TransferLength refl }
       go false = record { does = (rw (length-drop 4 d), refl) }
 
@@ -89,14 +105,23 @@ module _ (r : Receiver) (d m : List ℕ) (κ : Key) where
 
 -- a Multi-PG frame is refused with 4 to 8
 
+abbrev pub groupFault : ℕ → Bool
+groupFault n = leb 4 n && leb n 8
+
+group-mild : (n : ℕ) → groupFault n ≡ true → mild n ≡ true
+group-mild n e =
+    let l : 4 ≤ n = leb-true 4 n (and-left (leb 4 n) (leb n 8) e) in
+    let u : n ≤ 8 = leb-true n 8 (and-right (leb 4 n) (leb n 8) e) in
+    rw (ne-eqb n 19 (λ y. omega arith), ne-eqb n 21 (λ y. omega arith), ne-eqb n 23 (λ y. omega arith))
+
 mildStep : Step → Bool
 mildStep step.End = true
-mildStep (step.Fault n) = mild (numberOf n)
+mildStep (step.Fault n) = groupFault (numberOf n)
 mildStep (step.At g) = true
 
-mildReading : Reading → Bool
-mildReading (good gs) = true
-mildReading (bad n) = mild (numberOf n)
+abbrev pub mildGroups : GroupsRead → Bool
+mildGroups (good gs) = true
+mildGroups (bad n) = groupFault (numberOf n)
 
 step-cond : (t : Bool) (x y : Step) → mildStep x ≡ true → mildStep y ≡ true → mildStep (cond t x y) ≡ true
 step-cond true x y a b = a
@@ -113,37 +138,37 @@ step-mild d at =
     (step-cond (not (lowByteOk (pgnAt d at))) _ _ refl
     (step-cond (ltb (length d - at - 4) (dataLength d at)) _ _ refl refl))))))
 
-after-mild : (g : Group) (x : Reading) → mildReading x ≡ true → mildReading (after g x) ≡ true
-unfolding mildReading
+after-mild : (g : Group) (x : GroupsRead) → mildGroups x ≡ true → mildGroups (after g x) ≡ true
 after-mild g (good gs) e = refl
 after-mild g (bad n) e = e
 
-on-mild : (x : Step) (rest : Group → Reading) → mildStep x ≡ true → ((g : Group) → mildReading (rest g) ≡ true) → mildReading (onStep x rest) ≡ true
-unfolding mildStep mildReading
+on-mild : (x : Step) (rest : Group → GroupsRead) → mildStep x ≡ true → ((g : Group) → mildGroups (rest g) ≡ true) → mildGroups (onStep x rest) ≡ true
+unfolding mildStep
 on-mild step.End rest e f = refl
 on-mild (step.Fault n) rest e f = e
 on-mild (step.At g) rest e f = after-mild g (rest g) (f g)
 
-read-mild : (n : ℕ) (d : List ℕ) (at : ℕ) → mildReading (readFrom n d at) ≡ true
-unfolding readFrom mildReading
+read-mild : (n : ℕ) (d : List ℕ) (at : ℕ) → mildGroups (readFrom n d at) ≡ true
+unfolding readFrom
 read-mild zero d at = refl
 read-mild (suc n) d at = on-mild (stepAt d at) (λ g. readFrom n d (g .start + g .len)) (step-mild d at) (λ g. read-mild n d (g .start + g .len))
 
-reading-mild : (d : List ℕ) → mildReading (reading d) ≡ true
-unfolding reading
+pub reading-mild : (d : List ℕ) → mildGroups (groupsRead d) ≡ true
+unfolding groupsRead
 reading-mild d = read-mild (suc (length d)) d 0
 
 module _ (r : Receiver) (id : ℕ) (d m : List ℕ) where
-  groups-foreign : (g : Reading) (ρ : Route) → mildReading g ≡ true → Foreign r m (groupsStep g ρ r, m)
-  unfolding touches mildReading
-  groups-foreign (good gs) ρ e = record { answer = answer.Groups ρ; same = refl; quiet = λ j. refl; mildly = refl }
-  groups-foreign (bad n) ρ e = record { answer = answer.Refused n; same = refl; quiet = λ j. refl; mildly = e }
+  groups-foreign : (g : GroupsRead) (ρ : Route) → mildGroups g ≡ true → Foreign r m (groupsStep g ρ r, m)
+  groups-foreign (good gs) ρ e = record { answer = answer.Groups ρ; same = refl; plain = groups ρ refl; mildly = refl }
+  groups-foreign (bad n) ρ e = record { answer = answer.Refused n; same = refl; plain = refusal n refl; mildly = group-mild (numberOf n) e }
 
   format-agrees : (pf : ℕ) (ρ : Route) → Agrees r d m (keyOf ρ d) (onVerdict (byFormat pf ρ) r d m) (cond (eqb pf 77) (controlBody d) (cond (eqb pf 78) (dataBody d) none))
   unfolding byFormat controlStep
   format-agrees pf ρ = go (eqb pf 37) refl
     where
-      other : (a b : Bool) → Agrees r d m (keyOf ρ d) (onVerdict (cond a (verdict.Control ρ) (cond b (verdict.Data ρ) (verdict.Refused NotTaken))) r d m) (cond a (controlBody d) (cond b (dataBody d) none))
+      other : (a b : Bool) → Agrees r d m (keyOf ρ d)
+          (onVerdict (cond a (verdict.Control ρ) (cond b (verdict.Data ρ) (verdict.Refused NotTaken))) r d m)
+          (cond a (controlBody d) (cond b (dataBody d) none))
       other true b = control-agrees r d m (keyOf ρ d)
       other false true = data-agrees r d m (keyOf ρ d)
       other false false = record { does = foreign r m NotTaken refl }
@@ -153,7 +178,7 @@ module _ (r : Receiver) (id : ℕ) (d m : List ℕ) where
           (cond (eqb pf 77) (controlBody d) (cond (eqb pf 78) (dataBody d) none))
       go true e =
           let z : pf ≡ 37 = eqb-true pf 37 e in
-          rw (ne-eqb pf 77 (λ y. omega arith), ne-eqb pf 78 (λ y. omega arith)) (record { does = groups-foreign (reading d) ρ (reading-mild d) })
+          rw (ne-eqb pf 77 (λ y. omega arith), ne-eqb pf 78 (λ y. omega arith)) (record { does = groups-foreign (groupsRead d) ρ (reading-mild d) })
       go false e = other (eqb pf 77) (eqb pf 78)
 
 -- ---- 2, 1, 3
@@ -174,10 +199,10 @@ range-same id = same-test (ltb id 536870912) (not (leb 536870912 id))
     (λ e. let z : id < 536870912 = ltb-true id 536870912 e in ap not (lt-leb 536870912 id (omega arith)))
     (λ e. let z : id < 536870912 = leb-false 536870912 id (not-true (leb 536870912 id) e) in lt-ltb id 536870912 z)
 
-taken-same : (own : Address) (id : ℕ) (d : List ℕ) → F.taken own id d ≡ (not (leb 536870912 id) && (isLength (length d) && routeTaken own (identifierOf id)))
+pub taken-same : (own : Address) (id : ℕ) (d : List ℕ) → F.taken own id d ≡ (not (leb 536870912 id) && (isLength (length d) && routeTaken own (identifierOf id)))
 unfolding F.taken
 taken-same own id d =
-    rw (range-same id, sa-same (identifierOf id .sa .0) (omega arith))
+    rw (range-same id, length-same (length d), sa-same (identifierOf id .sa .0) (omega arith))
     (ap (λ (t : Bool). not (leb 536870912 id) && (isLength (length d) && t))
     (chain-6 (eqb (identifierOf id .extended_data_page) 0) (eqb (identifierOf id .data_page) 0) (eqb (identifierOf id .ps) (own .0) || eqb (identifierOf id .ps) 255)
     (not (eqb (identifierOf id .sa .0) 254)) (not (eqb (identifierOf id .sa .0) 255)) (not (eqb (identifierOf id .sa .0) (own .0)))))
@@ -213,7 +238,7 @@ unfolding bodyOf F.taken frameKey
 frame-mine v id d b small e =
     let t = untaken (F.taken (v .own) id d) _ b e in
     let t₁ = and-right (ltb id (2 ^ 29)) _ t in
-    let t₂ = and-right (isLength (length d)) _ t₁ in
+    let t₂ = and-right (isOneOf (length d) fdLengths) _ t₁ in
     let t₃ = and-right (eqb (identifierOf id .extended_data_page) 0) _ t₂ in
     let t₄ = and-right (eqb (identifierOf id .data_page) 0) _ t₃ in
     let da = and-left (eqb (identifierOf id .ps) (v .own .0) || eqb (identifierOf id .ps) 255) _ t₄ in

@@ -40,7 +40,8 @@ use Rattle.receiver.specs.declared.Receiver.{Receiver}
 use Rattle.receiver.specs.Bounds.{inBounds, opened}
 use Rattle.receiver.specs.Calls.{Outcome, Elapsed, answered, refused, withSlot, apply, slotOf, isReady, onVerdict, frameAll, frameStep, frameStore, afterEnd, expired, expiredState, endOf, slotEnd, readingKept, readingStep, stays}
 use Rattle.isolation.specs.OwnFrames.{keyAt, frameKey, Body, announce, segment, status, abort, bodyOf}
-use Rattle.isolation.proofs.Slots.{at, lowest-some}
+use Rattle.slots.specs.Searches.{lowest-some}
+use Rattle.isolation.proofs.Slots.{at}
 use Rattle.isolation.proofs.Single.{bodyStep}
 use Rattle.isolation.proofs.Read.{Takes, frame-agrees}
 use Rattle.isolation.proofs.Tests.{clash, both}
@@ -110,7 +111,8 @@ pub frame-effect : (r : Receiver) (id : ℕ) (d m : List ℕ) → Effect r m (ke
 unfolding frameAll
 frame-effect r id d m = go (isReady r m) refl
   where
-    read : (b : Option Body) → Takes r d m (keyAt (frameKey id d)) (onVerdict (judged-frame (r .own) id (length d)) r d m) b → Effect r m (keyAt (frameKey id d)) (onVerdict (judged-frame (r .own) id (length d)) r d m)
+    read : (b : Option Body) → Takes r d m (keyAt (frameKey id d)) (onVerdict (judged-frame (r .own) id (length d)) r d m) b
+        → Effect r m (keyAt (frameKey id d)) (onVerdict (judged-frame (r .own) id (length d)) r d m)
     read none f =
         changes-nothing (ap (λ (o : Outcome). o .0 .next) (f .same)) (ap (λ (o : Outcome). o .1) (f .same)) (ap (λ (o : Outcome). mild (answerNumber (o .0 .answer))) (f .same) ∙ f .mildly)
     read (some b) t = subst (λ (o : Outcome). Effect r m (keyAt (frameKey id d)) o) (sym (t .0)) (body-effect r m (keyAt (frameKey id d)) b d)

@@ -1,12 +1,20 @@
 -- The rules' own tests and counts are the receiver's.
 use Prim.Native.Nat.{ℕ, _+_, _*_, _-_, _/_, _%_, _≤_, _<_, min}
-use mathlib.Core.Path.{_≡_, refl, sym}
+use mathlib.Core.Path.{_≡_, refl, sym, ap}
 use mathlib.Core.Logic.{_⊎_, inl, inr}
 use mathlib.Core.Bool.{or-assoc, Bool, true, false, cond, not, _&&_, _||_}
 use native.Mathlib.Omega.{arith}
-use lib.Dec.{eqb, leb}
-use borrow.Author.Tests.{eqb-true, eqb-false, eq-eqb, ne-eqb, leb-true, leb-false}
+use lib.Dec.{eqb, leb, ltb}
+use borrow.Author.Tests.{eqb-true, eqb-false, eq-eqb, ne-eqb, leb-true, leb-false, ltb-true, ltb-false, lt-leb, le-leb}
+use Rattle.laws.specs.Bools.{by-test}
 use Rattle.frame.specs.declared.Address.{Address}
+use Rattle.frame.specs.declared.refusal.Refusal.{Refusal}
+use Rattle.frame.specs.declared.refusal.Refusal.the-variants.{PgnForm, AnnouncementForm, TooLong, Assurance, KeyOpen, SlotsFull, OutOfSequence, StatusMismatch, Silence}
+use Rattle.frame.specs.Refusals.{numberOf}
+use Rattle.frame.specs.Lengths.{isLength}
+use Rattle.frame.specs.LengthLaws.{is-among}
+use Rattle.frame.specs.Pgn.{pgnOk}
+use Rattle.transport.specs.Reasons.{reasonOf}
 use Rattle.transport.specs.declared.Kind.{Kind}
 use Rattle.transport.specs.declared.Kind.the-variants.{Rts, Bam}
 use Rattle.transport.specs.declared.control.Announcement.{Announcement}
@@ -15,10 +23,65 @@ use Rattle.progress.specs.Forward.{grantOf}
 use Rattle.session.specs.Announcements as S
 use Rattle.session.specs.Segments.{dueOf}
 use Rattle.session.specs.Ends.{elapsed}
+use Rattle.isolation.specs.Standard as T
+use Rattle.isolation.specs.Standard.{Cause, numberFor, reasonFor, fdLengths, isOneOf, inPgnForm}
 use Rattle.isolation.specs.OwnFrames as F
 use Rattle.isolation.specs.Rules as R
 use Rattle.isolation.specs.OwnFrames.{keyAt}
 use Rattle.isolation.proofs.Tests.{or-either, same-test}
+
+-- ---- causes, lengths, PGNs
+
+-- the receiver's name of a cause
+abbrev pub refusalFor : Cause → Refusal
+refusalFor T.pgnWrong = PgnForm
+refusalFor T.numbersWrong = AnnouncementForm
+refusalFor T.tooLong = TooLong
+refusalFor T.assured = Assurance
+refusalFor T.keyOpen = KeyOpen
+refusalFor T.eightOpen = SlotsFull
+refusalFor T.outOfOrder = OutOfSequence
+refusalFor T.unlikeAnnounced = StatusMismatch
+refusalFor T.silent = Silence
+
+pub number-same : (c : Cause) → numberOf (refusalFor c) ≡ numberFor c
+unfolding numberFor
+number-same T.pgnWrong = refl
+number-same T.numbersWrong = refl
+number-same T.tooLong = refl
+number-same T.assured = refl
+number-same T.keyOpen = refl
+number-same T.eightOpen = refl
+number-same T.outOfOrder = refl
+number-same T.unlikeAnnounced = refl
+number-same T.silent = refl
+
+pub reason-same : (c : Cause) → reasonOf (numberOf (refusalFor c)) ≡ reasonFor c
+unfolding reasonOf reasonFor
+reason-same T.pgnWrong = refl
+reason-same T.numbersWrong = refl
+reason-same T.tooLong = refl
+reason-same T.assured = refl
+reason-same T.keyOpen = refl
+reason-same T.eightOpen = refl
+reason-same T.outOfOrder = refl
+reason-same T.unlikeAnnounced = refl
+reason-same T.silent = refl
+
+pub length-same : (n : ℕ) → isOneOf n fdLengths ≡ isLength n
+unfolding isOneOf fdLengths
+length-same n = sym (is-among n)
+
+pub pgn-same : (pgn : ℕ) → inPgnForm pgn ≡ pgnOk pgn
+unfolding inPgnForm
+pgn-same pgn = ap (λ (t : Bool). ltb pgn 262144 && t) (go (pgn / 256 % 256))
+  where
+    go : (pf : ℕ) → cond (ltb pf 240) (eqb (pgn % 256) 0) true ≡ (leb 240 pf || eqb (pgn % 256) 0)
+    go pf = by-test (ltb pf 240)
+        (λ e. let h : pf < 240 = ltb-true pf 240 e in rw (e, lt-leb 240 pf (omega arith)))
+        (λ e. let h : 240 ≤ pf = ltb-false pf 240 e in rw (e, le-leb 240 pf h))
+
+-- ---- counts and tests
 
 pub kind-same : (κ : Kind) → F.isRts κ ≡ isRts κ
 unfolding F.isRts

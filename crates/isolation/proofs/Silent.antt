@@ -15,11 +15,12 @@ use Rattle.answer.specs.declared.End.the-variants as end
 use Rattle.slots.specs.Slots.{sameKey}
 use Rattle.session.specs.Decisions as D
 use Rattle.receiver.specs.Calls.{afterEnd, expiredState, endOf}
-use Rattle.answer.specs.Answers.{abortFor}
+use Rattle.transport.specs.Reasons.{reasonOf}
+use Rattle.isolation.specs.Standard.{silent, numberFor, reasonFor}
 use Rattle.isolation.specs.OwnFrames as F
 use Rattle.isolation.specs.Replies as P
 use Rattle.isolation.specs.OwnFrames.{keyAt}
-use Rattle.isolation.specs.Replies.{Reply, ending}
+use Rattle.isolation.specs.Replies.{Reply, ending, abortFrame}
 use Rattle.isolation.specs.Rules.{Values, Open, judgedAt, endsAt, isSilent}
 use Rattle.isolation.specs.Observe.{endReply, endingOf}
 use Rattle.isolation.proofs.Tests.{clash}
@@ -61,11 +62,11 @@ expire-holds limit t k (is.Open s) e = go (leb limit (elapsed (s .progress .mark
     go true e = absurd (clash false e refl)
     go false e = e
 
-end-same : (k : ℕ) (ρ : Open) → endReply (D.endingOf (recordOf k ρ) Silence) ≡ ending k (ρ .told) 22
-unfolding endReply ending
+end-same : (k : ℕ) (ρ : Open) → endReply (D.endingOf (recordOf k ρ) Silence) ≡ ending k (ρ .told) silent
+unfolding endReply ending numberFor reasonFor reasonOf
 end-same k ρ =
     ap (λ (w : Option P.Wire). record { number = 22; says = P.ended (keyAt k) (ρ .told .kind) (ρ .told .pgn); sends = w })
-    (wire-cond (isRts (ρ .told .kind)) (F.isRts (ρ .told .kind)) (abortFor (keyAt k) Silence (ρ .told .pgn)) (kind-same (ρ .told .kind)))
+    (wire-cond (isRts (ρ .told .kind)) (F.isRts (ρ .told .kind)) (abortFrame k silent (ρ .told .pgn)) (kind-same (ρ .told .kind)))
 
 pub ends-own : (v : Values) (t k : ℕ) (x : State) (p : List ℕ) (y : Option Open) → Ses v k x p y → endingOf k (endOf (v .limit) t x) ≡ endsAt v k t y
 unfolding endingOf endsAt isSilent
@@ -74,7 +75,7 @@ ends-own v t k is.Closed p (some ρ) m = absurd m
 ends-own v t k (is.Open s) p none m = absurd m
 ends-own v t k (is.Open s) p (some ρ) m = rw (m .0, since-same (ρ .mark) t) (go (leb (v .limit) (elapsed (ρ .mark) t)))
   where
-    go : (b : Bool) → endingOf k (cond b (end.Ended (D.endingOf (recordOf k ρ) Silence)) end.Stays) ≡ cond b (ending k (ρ .told) 22 ∷ []) []
+    go : (b : Bool) → endingOf k (cond b (end.Ended (D.endingOf (recordOf k ρ) Silence)) end.Stays) ≡ cond b (ending k (ρ .told) silent ∷ []) []
     go true = rw (own-key k) (ap (λ (e : Reply). e ∷ []) (end-same k ρ))
     go false = refl
 

@@ -10,7 +10,7 @@ use lib.ListN.{length, take}
 use borrow.Author.Tests.{ltb-false, eqb-true, eqb-false, not-false}
 use Rattle.frame.specs.Refusals.{numberOf}
 use Rattle.frame.specs.declared.refusal.Refusal.{Refusal}
-use Rattle.frame.specs.declared.refusal.Refusal.the-variants.{PgnForm, AnnouncementForm, TooLong, Assurance, KeyOpen, SlotsFull, KeyNotOpen, FormatIndicator, AlreadyTaken, OutOfSequence, SegmentCut, StatusMismatch}
+use Rattle.frame.specs.declared.refusal.Refusal.the-variants.{AnnouncementForm, KeyNotOpen, FormatIndicator, AlreadyTaken, SegmentCut}
 use Rattle.frame.specs.Pgn.{pgnOk}
 use Rattle.transport.specs.Kinds.{isRts}
 use Rattle.transport.specs.declared.Key.{Key}
@@ -20,7 +20,8 @@ use Rattle.transport.specs.declared.segment.Segment.{Segment}
 use Rattle.transport.specs.Segments.{dataAt}
 use Rattle.answer.specs.declared.Answer.{Answer}
 use Rattle.answer.specs.declared.Answer.the-variants as answer
-use Rattle.answer.specs.Answers.{messageBytes, abortFor, eomaFor}
+use Rattle.answer.specs.Answers.{messageBytes, eomaFor}
+use Rattle.answer.specs.Lies.{message-lies}
 use Rattle.progress.specs.Forward.{ctsDue, advancedBy}
 use Rattle.session.specs.declared.Session.{Session}
 use Rattle.session.specs.declared.State.{State}
@@ -44,17 +45,18 @@ use Rattle.slots.specs.declared.Found.the-variants.{At, Nothing}
 use Rattle.slots.specs.Slots.{slotFor, stateIn, isAt}
 use Rattle.receiver.specs.declared.Receiver.{Receiver}
 use Rattle.receiver.specs.Calls.{Outcome, apply, stored, storedBy, slotOf}
+use Rattle.isolation.specs.Standard.{Cause, pgnWrong, numbersWrong, tooLong, assured, keyOpen, eightOpen, outOfOrder, unlikeAnnounced, numberFor, inPgnForm}
 use Rattle.isolation.specs.OwnFrames as F
 use Rattle.isolation.specs.Replies as P
 use Rattle.isolation.specs.Rules as R
 use Rattle.isolation.specs.OwnFrames.{keyAt, Body, announce, segment, status, abort}
-use Rattle.isolation.specs.Replies.{Reply, reject, refuse, ending, cts, plain, sent, handOver, handed}
+use Rattle.isolation.specs.Replies.{Reply, reject, refuse, abortFrame, ending, cts, plain, sent, handOver, handed}
 use Rattle.isolation.specs.Rules.{Values, Open, Out, Piece, closes, opens, announced, grant, due, spent, adds, asAnnounced, rule, joined, isOpen, isTaken}
 use Rattle.isolation.specs.Observe.{saysOf, replyOf, touches}
 use Rattle.isolation.proofs.Tests.{or-left, or-right, and-left}
 use Rattle.isolation.proofs.Slots.{other-key}
 use Rattle.isolation.proofs.Bytes.{part, within-self, length-part, take-part, part-paste, within-paste}
-use Rattle.isolation.proofs.Same.{kind-same, grant-same, due-same, numbers-same, misdirected-same, eqb-next}
+use Rattle.isolation.proofs.Same.{refusalFor, number-same, reason-same, pgn-same, kind-same, grant-same, due-same, numbers-same, misdirected-same, eqb-next}
 use Rattle.isolation.proofs.Pieces.{cut, segment-inside, taken-same, joined-cut, cut-next}
 use Rattle.isolation.proofs.Fit.{recordOf, Rel, InSlot, Tied, walk, reply-cond, quiet-cond, wire-cond}
 
@@ -99,26 +101,27 @@ module _ (v : Values) (k : ℕ) (f : Found) (m : List ℕ) (x : Option Open) (y 
   unfolding replyOf saysOf touches
   refuse-tied n = record { reply = refl; only = λ j ne. refl; changed = (refl, refl) }
 
-  reject-tied : (a : Announcement) (n : Refusal) → Tied v k f m x y (stays (rejection (keyAt k) a n)) m (x, reject k a (numberOf n))
+  reject-tied : (a : Announcement) (c : Cause) → Tied v k f m x y (stays (rejection (keyAt k) a (refusalFor c))) m (x, reject k a c)
   unfolding replyOf saysOf touches reject sent
-  reject-tied a n =
+  reject-tied a c =
       walk (λ (z : Answer) (p : Reply). Tied v k f m x y (stays z) m (x, p)) (isRts (a .kind)) (F.isRts (a .kind)) (kind-same (a .kind))
-      (λ _. record { reply = refl; only = λ j ne. refl; changed = (refl, refl) })
-      (λ _. refuse-tied n)
+      (λ _. record { reply = rw (reason-same c, number-same c); only = λ j ne. other-key k j ne; changed = (refl, refl) })
+      (λ _. subst (λ (n : ℕ). Tied v k f m x y (refused (refusalFor c)) m (x, refuse n)) (number-same c) (refuse-tied (refusalFor c)))
 
   -- an announcement; what is left is one of good form
   announce-tied : Mine v k → (eight room : Bool) (last : ℕ) (a : Announcement)
       → (S.misdirected (keyAt k .da) (a .kind) ≡ false → formOf a ≡ form.Good → a .assurance ≡ 0
-      → Tied v k f m x y (forKey y room (keyAt k) a last) m (cond (isOpen x) (x, reject k a 14) (cond eight (x, reject k a 15) (opens k last a))))
+      → Tied v k f m x y (forKey y room (keyAt k) a last) m (cond (isOpen x) (x, reject k a keyOpen) (cond eight (x, reject k a eightOpen) (opens k last a))))
       → Tied v k f m x y (announcedTo y room (keyAt k) a last) m (announced (v .own) k last eight x a)
   unfolding announcedTo announced formOf
   announce-tied me eight room last a good =
-      walk (λ (z : Step) (q : Out). Tied v k f m x y z m q) (S.misdirected (keyAt k .da) (a .kind)) (R.misdirected (v .own) k (a .kind)) (misdirected-same (v .own) k (a .kind) (me .own) (me .taken .da))
+      walk (λ (z : Step) (q : Out). Tied v k f m x y z m q) (S.misdirected (keyAt k .da) (a .kind)) (R.misdirected (v .own) k (a .kind))
+      (misdirected-same (v .own) k (a .kind) (me .own) (me .taken .da))
       (λ _. refuse-tied AnnouncementForm) (λ aimed.
-      walk Formed (S.badNumbers a) (R.badNumbers a) (numbers-same a) (λ _. reject-tied a AnnouncementForm) (λ bad.
-      walk Formed (ltb 4096 (a .total .0)) (ltb 4096 (a .total .0)) refl (λ _. reject-tied a TooLong) (λ long.
-      walk Formed (not (eqb (a .assurance) 0)) (not (eqb (a .assurance) 0)) refl (λ _. reject-tied a Assurance) (λ sure.
-      walk Formed (not (pgnOk (a .pgn))) (not (pgnOk (a .pgn))) refl (λ _. reject-tied a PgnForm) (λ pgn.
+      walk Formed (S.badNumbers a) (R.badNumbers a) (numbers-same a) (λ _. reject-tied a numbersWrong) (λ bad.
+      walk Formed (ltb 4096 (a .total .0)) (ltb 4096 (a .total .0)) refl (λ _. reject-tied a tooLong) (λ long.
+      walk Formed (not (eqb (a .assurance) 0)) (not (eqb (a .assurance) 0)) refl (λ _. reject-tied a assured) (λ sure.
+      walk Formed (not (pgnOk (a .pgn))) (not (inPgnForm (a .pgn))) (ap not (pgn-same (a .pgn))) (λ _. reject-tied a pgnWrong) (λ pgn.
       good aimed (rw (bad, long, sure, pgn)) (eqb-true (a .assurance) 0 (not-false (eqb (a .assurance) 0) sure)))))))
     where
       Formed : Form → Out → Type 0
@@ -131,9 +134,10 @@ module _ (v : Values) (k : ℕ) (f : Found) (m : List ℕ) (whole : length m ≡
       → Tied v k f m none is.Closed (D.opening (keyAt k) a last) m (opens k last a)
   unfolding opens replyOf saysOf touches cts sent cut
   opens-tied i e a aimed good sure = record {
-    reply = reply-cond m (answer.Grant (firstCts (keyAt k) a)) (answer.Opened (keyAt k)) (isRts (a .kind)) (F.isRts (a .kind)) (cts k 1 (grant (a .max) (a .segments .0)) (a .pgn)) (plain (P.opened (keyAt k)))
+    reply = reply-cond m (answer.Grant (firstCts (keyAt k) a)) (answer.Opened (keyAt k)) (isRts (a .kind)) (F.isRts (a .kind))
+        (cts k 1 (grant (a .max) (a .segments .0)) (a .pgn)) (plain (P.opened (keyAt k)))
         (kind-same (a .kind)) (rw (grant-same (a .max) (a .segments .0))) refl;
-    only = λ j ne. quiet-cond j (isRts (a .kind)) (answer.Grant (firstCts (keyAt k) a)) (answer.Opened (keyAt k)) refl refl;
+    only = λ j ne. quiet-cond j (isRts (a .kind)) (answer.Grant (firstCts (keyAt k) a)) (answer.Opened (keyAt k)) (other-key k j ne) (other-key k j ne);
     changed = record {
       slot = i;
       found = e;
@@ -150,15 +154,16 @@ module _ (v : Values) (k : ℕ) (f : Found) (m : List ℕ) (whole : length m ≡
 
   -- `eight` says that there is no slot
   room-tied : (eight : Bool) → eight ≡ not (isAt f) → (a : Announcement) → S.misdirected (keyAt k .da) (a .kind) ≡ false → formOf a ≡ form.Good → a .assurance ≡ 0
-      → Tied v k f m none is.Closed (forKey is.Closed (isAt f) (keyAt k) a last) m (cond eight (none, reject k a 15) (opens k last a))
+      → Tied v k f m none is.Closed (forKey is.Closed (isAt f) (keyAt k) a last) m (cond eight (none, reject k a eightOpen) (opens k last a))
   room-tied eight e a aimed good sure = rw e (go f refl)
     where
-      go : (g : Found) → f ≡ g → Tied v k f m none is.Closed (forKey is.Closed (isAt g) (keyAt k) a last) m (cond (not (isAt g)) (none, reject k a 15) (opens k last a))
+      go : (g : Found) → f ≡ g → Tied v k f m none is.Closed (forKey is.Closed (isAt g) (keyAt k) a last) m (cond (not (isAt g)) (none, reject k a eightOpen) (opens k last a))
       go (At i) h = opens-tied i h a aimed good sure
-      go Nothing h = reject-tied v k f m none is.Closed a SlotsFull
+      go Nothing h = reject-tied v k f m none is.Closed a eightOpen
 
   pub shut-tied : (eight : Bool) → eight ≡ not (isAt f) → (b : Body) (d : List ℕ)
-      → Tied v k f m none is.Closed (asked is.Closed (isAt f) (slotOf f) last (keyAt k) b) (leaves b (asked is.Closed (isAt f) (slotOf f) last (keyAt k) b) f is.Closed d m) (rule v k last eight none b)
+      → Tied v k f m none is.Closed (asked is.Closed (isAt f) (slotOf f) last (keyAt k) b)
+      (leaves b (asked is.Closed (isAt f) (slotOf f) last (keyAt k) b) f is.Closed d m) (rule v k last eight none b)
   unfolding rule isOpen segmentTo statusTo abortTo
   shut-tied eight e (announce a) d = announce-tied v k f m none is.Closed me eight (isAt f) last a (room-tied eight e a)
   shut-tied eight e (segment format n z) d =
@@ -177,11 +182,11 @@ module _ (v : Values) (k i : ℕ) (low : suc i ≤ 8) (m : List ℕ) (whole : le
   Ties st m′ q = Tied v k (At i) m (some ρ) (is.Open (recordOf k ρ)) st m′ q
 
   -- a refusal that ends the session
-  ends-tied : (n : Refusal) → Ties (D.ended (recordOf k ρ) n) m (closes k ρ (numberOf n))
+  ends-tied : (c : Cause) → Ties (D.ended (recordOf k ρ) (refusalFor c)) m (closes k ρ c)
   unfolding replyOf saysOf touches ending
-  ends-tied n = record {
-    reply = ap (λ (w : Option P.Wire). record { number = numberOf n; says = P.ended (keyAt k) (ρ .told .kind) (ρ .told .pgn); sends = w })
-        (wire-cond (isRts (ρ .told .kind)) (F.isRts (ρ .told .kind)) (abortFor (keyAt k) n (ρ .told .pgn)) (kind-same (ρ .told .kind)));
+  ends-tied c = record {
+    reply = rw (reason-same c, number-same c) (ap (λ (w : Option P.Wire). record { number = numberFor c; says = P.ended (keyAt k) (ρ .told .kind) (ρ .told .pgn); sends = w })
+        (wire-cond (isRts (ρ .told .kind)) (F.isRts (ρ .told .kind)) (abortFrame k c (ρ .told .pgn)) (kind-same (ρ .told .kind))));
     only = λ j ne. other-key k j ne;
     changed = record { slot = i; found = refl; ses = tt; store = within-self i m whole };
   }
@@ -198,7 +203,8 @@ module _ (v : Values) (k i : ℕ) (low : suc i ≤ 8) (m : List ℕ) (whole : le
   unfolding asAnnounced
   status-same st =
       rw (rel .plain, eqb-next (length (ρ .pieces)) (ρ .told .segments .0))
-      (and-chain (eqb (length (ρ .pieces) + 1) (ρ .told .segments .0 + 1)) (eqb (st .total .0) (ρ .told .total .0)) (eqb (st .segments .0) (ρ .told .segments .0)) (eqb (st .assurance) 0) (eqb (st .pgn) (ρ .told .pgn)))
+      (and-chain (eqb (length (ρ .pieces) + 1) (ρ .told .segments .0 + 1)) (eqb (st .total .0) (ρ .told .total .0))
+      (eqb (st .segments .0) (ρ .told .segments .0)) (eqb (st .assurance) 0) (eqb (st .pgn) (ρ .told .pgn)))
 
   all-in : (st : Status) → statusMatches (recordOf k ρ) st ≡ true → length (ρ .pieces) + 1 ≡ ρ .told .segments .0 + 1
   all-in st e =
@@ -221,7 +227,8 @@ module _ (v : Values) (k i : ℕ) (low : suc i ≤ 8) (m : List ℕ) (whole : le
   unfolding replyOf saysOf touches handOver
   handed-tied e = record {
     reply = ap₂ (λ (b : List ℕ) (w : Option P.Wire). record { number = 0; says = handed (keyAt k) (ρ .told .kind) (ρ .told .total .0) (ρ .told .segments .0) (ρ .told .pgn) b; sends = w })
-        (bytes-fact e) (wire-cond (isRts (ρ .told .kind)) (F.isRts (ρ .told .kind)) (eomaFor (messageOf i (recordOf k ρ))) (kind-same (ρ .told .kind)));
+        (message-lies (messageOf i (recordOf k ρ)) [] m low most whole ∙ bytes-fact e)
+        (wire-cond (isRts (ρ .told .kind)) (F.isRts (ρ .told .kind)) (eomaFor (messageOf i (recordOf k ρ))) (kind-same (ρ .told .kind)));
     only = λ j ne. other-key k j ne;
     changed = record { slot = i; found = refl; ses = tt; store = within-self i m whole };
   }
@@ -231,7 +238,7 @@ module _ (v : Values) (k i : ℕ) (low : suc i ≤ 8) (m : List ℕ) (whole : le
   status-tied st =
       walk (λ (z : Step) (q : Out). Ties z m q) (statusMatches (recordOf k ρ) st) (asAnnounced ρ st) (status-same st)
       (λ all. let e : length (ρ .pieces) + 1 ≡ ρ .told .segments .0 + 1 = all-in st all in handed-tied (omega arith))
-      (λ _. ends-tied StatusMismatch)
+      (λ _. ends-tied unlikeAnnounced)
 
   -- ---- an Abort
 
@@ -258,10 +265,12 @@ module _ (v : Values) (k i : ℕ) (low : suc i ≤ 8) (m : List ℕ) (whole : le
       → Ties (D.taken (recordOf k ρ) (suc (length (ρ .pieces))) last) (stored i (recordOf k ρ) (suc (length (ρ .pieces))) d m) (adds k last ρ (suc (length (ρ .pieces))) (dataAt d))
   unfolding adds replyOf saysOf touches cts sent
   adds-next d room takes small enough = record {
-    reply = reply-cond _ (answer.Grant (nextCts (recordOf k ρ .announced) n)) (answer.Taken (record { key = keyAt k; number = record { 0 = n } })) (ctsDue (recordOf k ρ .progress) (recordOf k ρ .announced) n) (spent ρ n)
+    reply = reply-cond _ (answer.Grant (nextCts (recordOf k ρ .announced) n)) (answer.Taken (record { key = keyAt k; number = record { 0 = n } }))
+        (ctsDue (recordOf k ρ .progress) (recordOf k ρ .announced) n) (spent ρ n)
         (cts k (n + 1) (grant (ρ .told .max) (ρ .told .segments .0 - n)) (ρ .told .pgn)) (plain (P.took (keyAt k) n))
         (spent-same n) (rw (grant-same (ρ .told .max) (ρ .told .segments .0 - n))) refl;
-    only = λ j ne. quiet-cond j (ctsDue (recordOf k ρ .progress) (recordOf k ρ .announced) n) (answer.Grant (nextCts (recordOf k ρ .announced) n)) (answer.Taken (record { key = keyAt k; number = record { 0 = n } })) refl refl;
+    only = λ j ne. quiet-cond j (ctsDue (recordOf k ρ .progress) (recordOf k ρ .announced) n) (answer.Grant (nextCts (recordOf k ρ .announced) n))
+        (answer.Taken (record { key = keyAt k; number = record { 0 = n } })) (other-key k j ne) (other-key k j ne);
     changed = record {
       slot = i;
       found = refl;
@@ -302,7 +311,8 @@ module _ (v : Values) (k i : ℕ) (low : suc i ≤ 8) (m : List ℕ) (whole : le
           (sym (cut-next total (length (ρ .pieces)) (part i m) (dataAt d) (omega arith) enough
           ∙ ap (λ (t : List Piece). record { number = n; bytes = take (dueOf total n) (dataAt d) } ∷ t) (sym (rel .pieces))))
 
-  adds-tied : (n : ℕ) (d : List ℕ) (room : ℕ) → judgedOf (recordOf k ρ) n room ≡ judged.Takes → n ≡ suc (length (ρ .pieces)) → n ≤ ρ .told .segments .0 → dueOf (ρ .told .total .0) n ≤ length (dataAt d)
+  adds-tied : (n : ℕ) (d : List ℕ) (room : ℕ) → judgedOf (recordOf k ρ) n room ≡ judged.Takes → n ≡ suc (length (ρ .pieces))
+      → n ≤ ρ .told .segments .0 → dueOf (ρ .told .total .0) n ≤ length (dataAt d)
       → Ties (D.taken (recordOf k ρ) n last) (stored i (recordOf k ρ) n d m) (adds k last ρ n (dataAt d))
   adds-tied n d room takes e small enough = rw e (adds-next d room (rw e at takes) (rw e at small) (rw e at enough))
 
@@ -312,7 +322,7 @@ module _ (v : Values) (k i : ℕ) (low : suc i ≤ 8) (m : List ℕ) (whole : le
   unfolding R.segmentOpen judgedOf
   segment-tied n d =
       walk Judges (eqb n 0 || ltb n next) (eqb n 0 || isTaken n (ρ .pieces)) before (λ _. refuse-tied v k (At i) m (some ρ) (is.Open (recordOf k ρ)) AlreadyTaken) (λ a.
-      walk Judges (ltb next n || ltb (ρ .told .segments .0) n) (ltb next n || ltb (ρ .told .segments .0) n) refl (λ _. ends-tied OutOfSequence) (λ b.
+      walk Judges (ltb next n || ltb (ρ .told .segments .0) n) (ltb next n || ltb (ρ .told .segments .0) n) refl (λ _. ends-tied outOfOrder) (λ b.
       let l₀ : n ≡ 0 → ⊥ = eqb-false n 0 (or-left (eqb n 0) (ltb n next) a) in
       let l₁ : next ≤ n = ltb-false n next (or-right (eqb n 0) (ltb n next) a) in
       let l₂ : n ≤ next = ltb-false next n (or-left (ltb next n) (ltb (ρ .told .segments .0) n) b) in
@@ -339,7 +349,7 @@ module _ (v : Values) (k i : ℕ) (low : suc i ≤ 8) (m : List ℕ) (whole : le
       Ties (asked y room i last (keyAt k) b) (leaves b (asked y room i last (keyAt k) b) (At i) y d m) (rule v k last eight (some ρ) b)
   unfolding rule isOpen segmentTo statusTo abortTo
   held-tied eight room (announce a) d e =
-      announce-tied v k (At i) m (some ρ) (is.Open (recordOf k ρ)) me eight room last a (λ aimed good sure. reject-tied v k (At i) m (some ρ) (is.Open (recordOf k ρ)) a KeyOpen)
+      announce-tied v k (At i) m (some ρ) (is.Open (recordOf k ρ)) me eight room last a (λ aimed good sure. reject-tied v k (At i) m (some ρ) (is.Open (recordOf k ρ)) a keyOpen)
   held-tied eight room (segment format n z) d e =
       rw e (walk (λ (st : Step) (q : Out). Ties st (storedBy (st .change) (At i) (is.Open (recordOf k ρ)) n d m) q) (not (eqb format 0)) (not (eqb format 0)) refl
       (λ _. refuse-tied v k (At i) m (some ρ) (is.Open (recordOf k ρ)) FormatIndicator) (λ _. segment-tied n d))

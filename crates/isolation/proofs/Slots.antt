@@ -16,6 +16,7 @@ use Rattle.session.specs.declared.State.the-variants.{Closed, Open}
 use Rattle.slots.specs.declared.Found.{Found}
 use Rattle.slots.specs.declared.Found.the-variants.{At, Nothing}
 use Rattle.slots.specs.Slots.{sameKey, freeState, isFree, stateHolds, holdsKey, firstAt, firstFree, keyPlace, freeSlot}
+use Rattle.slots.specs.Searches.{first-some, from-none}
 use Rattle.isolation.specs.OwnFrames.{keyAt}
 use Rattle.isolation.specs.Observe.{openAt}
 use Rattle.isolation.proofs.Tests.{or-false, clash, and-left, and-right, both, same-test}
@@ -116,52 +117,12 @@ holds-inside k (x ∷ l) (suc i) e = suc-le-suc (holds-inside k l i e)
 
 -- ---- the searches
 
-turn : (t : Bool) (r : Found) (j i : ℕ) → cond t (At j) r ≡ At i → ((t ≡ true) × (i ≡ j)) ⊎ (r ≡ At i)
-turn true r j i e = inl (refl, (cc))
-turn false r j i e = inr e
-
-turn-none : (t : Bool) (r : Found) (j : ℕ) → cond t (At j) r ≡ Nothing → (t ≡ false) × (r ≡ Nothing)
-turn-none true r j e = ((cc), (cc))
-turn-none false r j e = (refl, e)
-
-module _ (p : Slot → Bool) where
-  from-some : (l : Slots) (j i : ℕ) → firstAt p j l ≡ At i → (m : ℕ) × (i ≡ j + m) × (p (getD l m freeSlot) ≡ true) × (m < length l)
-  from-some [] j i e = let z : _≡_ {A = ℕ} 0 1 = cc in absurd (omega arith)
-  from-some (x ∷ l) j i e = go (turn (p x) (firstAt p (j + 1) l) j i e) (from-some l (j + 1) i)
-    where
-      go : ((p x ≡ true) × (i ≡ j)) ⊎ (firstAt p (j + 1) l ≡ At i)
-          → (firstAt p (j + 1) l ≡ At i → (m : ℕ) × (i ≡ j + 1 + m) × (p (getD l m freeSlot) ≡ true) × (m < length l))
-          → (m : ℕ) × (i ≡ j + m) × (p (getD (x ∷ l) m freeSlot) ≡ true) × (m < length (x ∷ l))
-      go (inl q) ih = let e : i ≡ j = q .1 in (0, omega arith, q .0, omega arith)
-      go (inr q) ih = let r = ih q in let e : i ≡ j + 1 + r .0 = r .1 in (suc (r .0), omega arith, r .2, suc-le-suc (r .3))
-
-  from-none : (l : Slots) (j : ℕ) → firstAt p j l ≡ Nothing → (i : ℕ) → i < length l → p (getD l i freeSlot) ≡ false
-  from-none [] j e i h = absurd (omega arith)
-  from-none (x ∷ l) j e zero h = turn-none (p x) (firstAt p (j + 1) l) j e .0
-  from-none (x ∷ l) j e (suc i) h = from-none l (j + 1) (turn-none (p x) (firstAt p (j + 1) l) j e .1) i (omega arith)
-
-  first-some : (l : Slots) (i : ℕ) → firstAt p 0 l ≡ At i → (p (getD l i freeSlot) ≡ true) × (i < length l)
-  first-some l i e =
-      let r = from-some l 0 i e in
-      let z : i ≡ r .0 = r .1 ∙ omega arith in
-      rw z (r .2, r .3)
-
 pub find-some : (k : ℕ) (l : Slots) (i : ℕ) → keyPlace (keyAt k) l ≡ At i → (holds k (at l i) ≡ true) × (i < length l)
 find-some k l i e = let r = first-some (holdsKey (keyAt k)) l i e in (sym (holds-same k (at l i)) ∙ r .0, r .1)
 
 pub find-none : (k : ℕ) (l : Slots) → keyPlace (keyAt k) l ≡ Nothing → (i : ℕ) → holds k (at l i) ≡ false
 find-none k l e i =
     or-false (holds k (at l i)) (λ t. clash (holds k (at l i)) t (sym (holds-same k (at l i)) ∙ from-none (holdsKey (keyAt k)) l 0 e i (holds-inside k l i t)))
-
-pub lowest-some : (l : Slots) (i : ℕ) → firstFree l ≡ At i → (at l i ≡ Closed) × (i < length l)
-lowest-some l i e = let r = first-some isFree l i e in (free (at l i) (r .0), r .1)
-  where
-    free : (x : State) → freeState x ≡ true → x ≡ Closed
-    free Closed e = refl
-    free (Open s) e = absurd (clash false e refl)
-
-pub lowest-none : (l : Slots) → firstFree l ≡ Nothing → (i : ℕ) → i < length l → freeState (at l i) ≡ false
-lowest-none l e i h = from-none isFree l 0 e i h
 
 -- no two slots hold one key
 abbrev pub Unique : Slots → Type 0

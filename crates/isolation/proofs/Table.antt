@@ -128,7 +128,8 @@ pub record Rows : Type 0 where
       }
 
 pub rows : Rows
-unfolding r m key rts toRts opened inBounds slotsOk frameAll judged byFormat controlStep controlOf announceStep formOf announcedTo grantOf allGrants grants countOf dt dataFrameOf segmentStep segmentTo judgedOf dueOf session held readingStep elapsed
+unfolding r m key rts toRts opened inBounds slotsOk frameAll judged byFormat controlStep controlOf announceStep formOf announcedTo
+    grantOf allGrants grants countOf dt dataFrameOf segmentStep segmentTo judgedOf dueOf session held readingStep elapsed
 rows =
     record {
       p8 = refl;

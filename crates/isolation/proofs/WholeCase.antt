@@ -20,6 +20,7 @@ use Rattle.answer.specs.declared.Acceptance.the-variants.{Accepted}
 use Rattle.slots.specs.Bounds.{slotsOk}
 use Rattle.receiver.specs.Bounds.{inBounds, opened}
 use Rattle.receiver.specs.Calls.{announceStep, controlStep, segmentStep, frameAll, readingStep}
+use Rattle.isolation.specs.Standard.{fdLengths, isOneOf}
 use Rattle.isolation.specs.OwnFrames.{keyAt, frameKey, bodyOf, taken, controlBody, dataBody}
 use Rattle.isolation.specs.Replies.{granted, ended}
 use Rattle.isolation.specs.Rules.{answer, reading}
@@ -56,5 +57,8 @@ whole-case : observed (record { own = record { 0 = 33 }; limit = 1250 }) k (open
       sends = some (0x1C4D8021, 0x3F ∷ 255 ∷ 255 ∷ 255 ∷ 255 ∷ 255 ∷ 255 ∷ 253 ∷ 7 ∷ 0xCA ∷ 0xFE ∷ 0 ∷ []);
     })
     ∷ []
-unfolding opened inBounds slotsOk frameAll judged byFormat controlStep controlOf announceStep formOf announcedTo grantOf dataFrameOf segmentStep segmentTo judgedOf dueOf readingStep elapsed Groups.reading Groups.readFrom responseBytes replyId reasonOf k calls observed shows recordAfter storeAfter frameSeen isOwn isBody strays lost openIn touches replyOf saysOf readingSeen endingsOf endingOf frameKey bodyOf taken controlBody dataBody
+unfolding opened inBounds slotsOk frameAll judged byFormat controlStep controlOf announceStep formOf announcedTo grantOf
+    dataFrameOf segmentStep segmentTo judgedOf dueOf readingStep elapsed Groups.groupsRead Groups.readFrom responseBytes replyId
+    reasonOf k calls observed shows recordAfter storeAfter frameSeen isOwn isBody strays lost openIn touches replyOf saysOf
+    readingSeen endingsOf endingOf frameKey bodyOf taken isOneOf fdLengths controlBody dataBody
 whole-case = refl

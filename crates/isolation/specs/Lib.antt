@@ -1,6 +1,9 @@
+pub mod Standard
 pub mod OwnFrames
+pub mod Faults
 pub mod Replies
 pub mod Rules
 pub mod World
 pub mod Observe
 pub mod Stands
+pub mod Limits

@@ -18,7 +18,8 @@ use Rattle.answer.specs.declared.End.the-variants as end
 use Rattle.answer.specs.declared.SlotEnd.{SlotEnd}
 use Rattle.receiver.specs.Calls.{Elapsed}
 use Rattle.receiver.specs.Calls.{Outcome, frameAll, readingStep}
-use Rattle.answer.specs.Answers.{answerNumber, acceptanceNumber, answerSends, endSends, wireOf, messageBytes}
+use Rattle.answer.specs.Answers.{answerNumber, acceptanceNumber, answerSends, endSends, wireOf}
+use Rattle.answer.specs.Places.{placeOf, placeBytes}
 use Rattle.isolation.specs.OwnFrames.{keyAt, frameKey, Body, bodyOf}
 use Rattle.isolation.specs.Replies.{Reply, Says, nothing, opened, took, granted, handed, aborted, ended, rejected}
 use Rattle.isolation.specs.Rules.{Values, Seen, answer, reading, stray}
@@ -42,12 +43,14 @@ openIn k (s ∷ ss) = openAt k (s .state) || openIn k ss
 
 -- ---- answers
 
+-- a message's bytes are the part of the store that its place names; the frame lent beside it is not looked at
 unfoldable pub saysOf : Answer → List ℕ → Says
 saysOf (Groups route) m = nothing
 saysOf (Opened k) m = opened k
 saysOf (Taken t) m = took (t .key) (t .number .0)
 saysOf (Grant c) m = granted (c .key) (c .next .0) (c .count) (c .pgn)
-saysOf (HandedOver x) m = handed (x .key) (x .kind) (x .total .0) (x .segments .0) (x .pgn) (messageBytes x m)
+saysOf (HandedOver x) m =
+    handed (x .key) (x .kind) (x .total .0) (x .segments .0) (x .pgn) (placeBytes (placeOf (HandedOver x)) [] m)
 saysOf (Aborted k) m = aborted k
 saysOf (Ended e) m = ended (e .key) (e .kind) (e .pgn)
 saysOf (RefusedRts j) m = rejected (j .key) (j .pgn)
@@ -57,16 +60,16 @@ saysOf (Refused n) m = nothing
 unfoldable pub replyOf : Answer → List ℕ → Reply
 replyOf a m = record { number = answerNumber a; says = saysOf a m; sends = wireOf (answerSends a) }
 
--- an answer that ends the key's session or hands over for it
+-- an answer that carries the key, whatever it says of it
 unfoldable pub touches : ℕ → Answer → Bool
 touches k (Groups route) = false
-touches k (Opened j) = false
-touches k (Taken t) = false
-touches k (Grant c) = false
+touches k (Opened j) = isKey k j
+touches k (Taken t) = isKey k (t .key)
+touches k (Grant c) = isKey k (c .key)
 touches k (HandedOver x) = isKey k (x .key)
 touches k (Aborted j) = isKey k j
 touches k (Ended e) = isKey k (e .key)
-touches k (RefusedRts j) = false
+touches k (RefusedRts j) = isKey k (j .key)
 touches k (Refused n) = false
 
 -- ---- a frame
@@ -83,14 +86,19 @@ isOwn v k id d = isBody (bodyOf (v .own) id d) && eqb (frameKey id d) k
 unfoldable pub lost : ℕ → Receiver → Receiver → Bool
 lost k r r′ = openIn k (r .slots) && not (openIn k (r′ .slots))
 
--- a frame that is not the key's own shows only that it ended the key's session or handed over for it: by the answer, or by the records
+-- a frame that is not the key's own shows only that it was answered with the key, or that by the records it ended the key's session
+-- (y: the reply, as it is read)
+abbrev pub straysAs : ℕ → Receiver → Outcome → Reply → List Seen
+straysAs k r o y = cond (touches k (o .0 .answer) || lost k r (o .0 .next)) (stray y ∷ []) []
+
 unfoldable pub strays : ℕ → Receiver → Outcome → List Seen
-strays k r o =
-    cond (touches k (o .0 .answer) || lost k r (o .0 .next)) (stray (replyOf (o .0 .answer) (o .1)) ∷ []) []
+strays k r o = straysAs k r o (replyOf (o .0 .answer) (o .1))
+
+abbrev pub frameSeenAs : Values → ℕ → Receiver → ℕ → List ℕ → Outcome → Reply → List Seen
+frameSeenAs v k r id d o y = cond (isOwn v k id d) (answer y ∷ []) (straysAs k r o y)
 
 unfoldable pub frameSeen : Values → ℕ → Receiver → ℕ → List ℕ → Outcome → List Seen
-frameSeen v k r id d o =
-    cond (isOwn v k id d) (answer (replyOf (o .0 .answer) (o .1)) ∷ []) (strays k r o)
+frameSeen v k r id d o = frameSeenAs v k r id d o (replyOf (o .0 .answer) (o .1))
 
 -- ---- a reading
 
@@ -111,8 +119,12 @@ unfoldable pub endingsOf : ℕ → List SlotEnd → List Reply
 endingsOf k [] = []
 endingsOf k (s ∷ ss) = endingOf k (s .end) ++ endingsOf k ss
 
+-- its number and the key's endings
+abbrev pub readingSeenAs : ℕ → List Reply → List Seen
+readingSeenAs n ends = reading n ends ∷ []
+
 unfoldable pub readingSeen : ℕ → Elapsed → List Seen
-readingSeen k e = reading (acceptanceNumber (e .answer)) (endingsOf k (e .ends)) ∷ []
+readingSeen k e = readingSeenAs (acceptanceNumber (e .answer)) (endingsOf k (e .ends))
 
 -- ---- a call that is lent another buffer: left out because its answer is 23
 
@@ -127,14 +139,19 @@ isBoundsRefusal (Aborted k) = false
 isBoundsRefusal (Ended e) = false
 isBoundsRefusal (RefusedRts j) = false
 
+abbrev pub frameElsewhereAs : Values → ℕ → Receiver → ℕ → List ℕ → Outcome → Reply → List Seen
+frameElsewhereAs v k r id d o y =
+    cond (isBoundsRefusal (o .0 .answer)) (straysAs k r o y) (frameSeenAs v k r id d o y)
+
 unfoldable pub frameElsewhere : Values → ℕ → Receiver → ℕ → List ℕ → Outcome → List Seen
-frameElsewhere v k r id d o =
-    cond (isBoundsRefusal (o .0 .answer)) (strays k r o) (frameSeen v k r id d o)
+frameElsewhere v k r id d o = frameElsewhereAs v k r id d o (replyOf (o .0 .answer) (o .1))
+
+abbrev pub readingElsewhereAs : ℕ → Receiver → Receiver → ℕ → List Reply → List Seen
+readingElsewhereAs k r r′ n ends =
+    cond (eqb n 23 && not (lost k r r′)) (map stray ends) (readingSeenAs n ends)
 
 unfoldable pub readingElsewhere : ℕ → Receiver → Elapsed → List Seen
-readingElsewhere k r e =
-    cond (eqb (acceptanceNumber (e .answer)) 23 && not (lost k r (e .next))) (map stray (endingsOf k (e .ends)))
-    (readingSeen k e)
+readingElsewhere k r e = readingElsewhereAs k r (e .next) (acceptanceNumber (e .answer)) (endingsOf k (e .ends))
 
 -- ---- calls, made one after another: each gets the record that the last one returned, and the store that it left or another buffer
 

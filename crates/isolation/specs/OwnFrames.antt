@@ -1,5 +1,5 @@
--- Which frames are a key's own: 01, the last paragraph of "Transfer frames". Taken from other crates: where the bytes of a frame stand, and
--- the lengths of CAN FD.
+-- Which frames are a key's own: 01, the last paragraph of "Transfer frames". Taken from other crates: where the bits of an identifier and
+-- the bytes of a frame are.
 use Prim.Native.Nat.{ℕ, _+_, _*_, _/_, _%_, _^_}
 use mathlib.Core.Bool.{Bool, true, false, cond, not, _&&_, _||_}
 use mathlib.Core.Option.{Option, none, some}
@@ -8,7 +8,6 @@ use lib.Dec.{eqb, ltb}
 use lib.ListN.{length}
 use Rattle.frame.specs.declared.Address.{Address}
 use Rattle.frame.specs.Identifiers.{identifierOf}
-use Rattle.frame.specs.Lengths.{isLength}
 use Rattle.transport.specs.declared.Key.{Key}
 use Rattle.transport.specs.declared.Kind.{Kind}
 use Rattle.transport.specs.declared.Kind.the-variants.{Rts, Bam}
@@ -16,6 +15,7 @@ use Rattle.transport.specs.declared.control.Announcement.{Announcement}
 use Rattle.transport.specs.declared.control.Status.{Status}
 use Rattle.transport.specs.Control.{controlAt, sessionAt, announcementAt, statusAt, roleAt, abortPgnAt}
 use Rattle.transport.specs.Segments.{formatAt, numberAt, dataAt}
+use Rattle.isolation.specs.Standard.{fdLengths, isOneOf}
 
 -- ---- keys: SA, DA and session number, as one number below 2^20
 
@@ -60,7 +60,7 @@ dataBody d = cond (ltb (length d) 5) none (some (segment (formatAt d) (numberAt 
 unfoldable pub taken : Address → ℕ → List ℕ → Bool
 taken own id d =
     ltb id (2 ^ 29)
-    && (isLength (length d)
+    && (isOneOf (length d) fdLengths
     && (eqb (identifierOf id .extended_data_page) 0
     && (eqb (identifierOf id .data_page) 0
     && ((eqb (identifierOf id .ps) (own .0) || eqb (identifierOf id .ps) 255)

@@ -1,5 +1,5 @@
--- What the rules answer to an own frame: 01, "Numbered refusals" and "Life of a session". Taken from transport: the frames written, and the
--- wire reasons.
+-- What the rules answer to an own frame: 01, "Numbered refusals" and "Life of a session". Taken from transport: how
+-- the bytes of a frame are written.
 use Prim.Native.Nat.{ℕ}
 use mathlib.Core.Bool.{cond}
 use mathlib.Core.Option.{Option, none, some}
@@ -10,7 +10,7 @@ use Rattle.transport.specs.declared.control.Announcement.{Announcement}
 use Rattle.transport.specs.declared.response.Response.{Response}
 use Rattle.transport.specs.declared.response.Response.the-variants as response
 use Rattle.transport.specs.Responses.{responseBytes, responseId}
-use Rattle.transport.specs.Reasons.{reasonOf}
+use Rattle.isolation.specs.Standard.{Cause, numberFor, reasonFor}
 use Rattle.isolation.specs.OwnFrames.{keyAt, isRts}
 
 -- ---- replies: 01's number (0 where nothing is refused), the values, and the frame sent, as identifier and bytes, or none
@@ -43,9 +43,9 @@ pub record Reply : Type 0 where
 unfoldable pub sent : Response → Option Wire
 sent f = some (responseId f, responseBytes f)
 
--- an Abort for a refusal, by its number
-abbrev pub abortFrame : ℕ → ℕ → ℕ → Response
-abortFrame k n pgn = response.Abort (record { key = keyAt k; reason = reasonOf n; pgn = pgn })
+-- an Abort, by its cause
+abbrev pub abortFrame : ℕ → Cause → ℕ → Response
+abortFrame k c pgn = response.Abort (record { key = keyAt k; reason = reasonFor c; pgn = pgn })
 
 abbrev pub ctsFrame : ℕ → ℕ → ℕ → ℕ → Response
 ctsFrame k next count pgn = response.Cts (record { key = keyAt k; next = record { 0 = next }; count = count; pgn = pgn })
@@ -58,19 +58,19 @@ abbrev pub refuse : ℕ → Reply
 refuse n = record { number = n; says = nothing; sends = none }
 
 -- an announcement refused: an RTS is answered by Abort, a BAM by nothing
-unfoldable pub reject : ℕ → Announcement → ℕ → Reply
-reject k a n =
+unfoldable pub reject : ℕ → Announcement → Cause → Reply
+reject k a c =
     cond (isRts (a .kind))
-    (record { number = n; says = rejected (keyAt k) (a .pgn); sends = sent (abortFrame k n (a .pgn)) })
-    (refuse n)
+    (record { number = numberFor c; says = rejected (keyAt k) (a .pgn); sends = sent (abortFrame k c (a .pgn)) })
+    (refuse (numberFor c))
 
 -- the session ends by a refusal: RTS sessions send Abort
-unfoldable pub ending : ℕ → Announcement → ℕ → Reply
-ending k a n =
+unfoldable pub ending : ℕ → Announcement → Cause → Reply
+ending k a c =
     record {
-      number = n;
+      number = numberFor c;
       says = ended (keyAt k) (a .kind) (a .pgn);
-      sends = cond (isRts (a .kind)) (sent (abortFrame k n (a .pgn))) none;
+      sends = cond (isRts (a .kind)) (sent (abortFrame k c (a .pgn))) none;
     }
 
 unfoldable pub cts : ℕ → ℕ → ℕ → ℕ → Reply

@@ -7,11 +7,11 @@ use mathlib.Core.List.{List, [], _∷_, _++_}
 use lib.Dec.{eqb, leb, ltb}
 use lib.ListN.{length, take}
 use Rattle.frame.specs.declared.Address.{Address}
-use Rattle.frame.specs.Pgn.{pgnOk}
 use Rattle.transport.specs.declared.Kind.{Kind}
 use Rattle.transport.specs.declared.Kind.the-variants.{Rts, Bam}
 use Rattle.transport.specs.declared.control.Announcement.{Announcement}
 use Rattle.transport.specs.declared.control.Status.{Status}
+use Rattle.isolation.specs.Standard.{Cause, pgnWrong, numbersWrong, tooLong, assured, keyOpen, eightOpen, outOfOrder, unlikeAnnounced, silent, inPgnForm}
 use Rattle.isolation.specs.OwnFrames.{keyAt, isRts, Body, announce, segment, status, abort}
 use Rattle.isolation.specs.Replies.{Reply, opened, took, aborted, refuse, reject, ending, cts, plain, handOver}
 
@@ -98,12 +98,12 @@ opens k last a =
 unfoldable pub announced : Address → ℕ → ℕ → Bool → Option Open → Announcement → Out
 announced own k last eight x a =
     cond (misdirected own k (a .kind)) (x, refuse 11)
-    (cond (badNumbers a) (x, reject k a 11)
-    (cond (ltb 4096 (a .total .0)) (x, reject k a 12)
-    (cond (not (eqb (a .assurance) 0)) (x, reject k a 13)
-    (cond (not (pgnOk (a .pgn))) (x, reject k a 8)
-    (cond (isOpen x) (x, reject k a 14)
-    (cond eight (x, reject k a 15)
+    (cond (badNumbers a) (x, reject k a numbersWrong)
+    (cond (ltb 4096 (a .total .0)) (x, reject k a tooLong)
+    (cond (not (eqb (a .assurance) 0)) (x, reject k a assured)
+    (cond (not (inPgnForm (a .pgn))) (x, reject k a pgnWrong)
+    (cond (isOpen x) (x, reject k a keyOpen)
+    (cond eight (x, reject k a eightOpen)
     (opens k last a)))))))
 
 -- ---- a segment
@@ -113,8 +113,8 @@ unfoldable pub due : ℕ → ℕ → ℕ
 due total n = cond (leb (60 * n) total) 60 (total - 60 * (n - 1))
 
 -- the session ends by a refusal
-abbrev pub closes : ℕ → Open → ℕ → Out
-closes k r n = (none, ending k (r .told) n)
+abbrev pub closes : ℕ → Open → Cause → Out
+closes k r c = (none, ending k (r .told) c)
 
 -- the grant is used up and segments remain
 unfoldable pub spent : Open → ℕ → Bool
@@ -137,7 +137,7 @@ adds k last r n d =
 unfoldable pub segmentOpen : ℕ → ℕ → Open → ℕ → List ℕ → Out
 segmentOpen k last r n d =
     cond (eqb n 0 || isTaken n (r .pieces)) (some r, refuse 18)
-    (cond (ltb (nextOf r) n || ltb (r .told .segments .0) n) (closes k r 19)
+    (cond (ltb (nextOf r) n || ltb (r .told .segments .0) n) (closes k r outOfOrder)
     (cond (ltb (length d) (due (r .told .total .0) n)) (some r, refuse 20)
     (adds k last r n d)))
 
@@ -154,7 +154,7 @@ asAnnounced r s =
 
 unfoldable pub statusOpen : ℕ → Open → Status → Out
 statusOpen k r s =
-    cond (asAnnounced r s) (none, handOver k (r .told) (joined (r .told .segments .0) (r .pieces))) (closes k r 21)
+    cond (asAnnounced r s) (none, handOver k (r .told) (joined (r .told .segments .0) (r .pieces))) (closes k r unlikeAnnounced)
 
 unfoldable pub abortOpen : ℕ → Open → ℕ → Out
 abortOpen k r pgn = cond (eqb pgn (r .told .pgn)) (none, plain (aborted (keyAt k))) (some r, refuse 16)
@@ -189,7 +189,7 @@ judgedAt v t (some r) = cond (isSilent v t r) none (some r)
 
 unfoldable pub endsAt : Values → ℕ → ℕ → Option Open → List Reply
 endsAt v k t none = []
-endsAt v k t (some r) = cond (isSilent v t r) (ending k (r .told) 22 ∷ []) []
+endsAt v k t (some r) = cond (isSilent v t r) (ending k (r .told) silent ∷ []) []
 
 -- ---- the rules over what they see and are told
 
@@ -202,7 +202,7 @@ pub data Seen : Type 0 where
   answer : Reply → Seen
   -- at a reading: the number of its answer, and the endings
   reading : ℕ → List Reply → Seen
-  -- a call that is no business of the key ends its session, or hands over for it: no output of the rules
+  -- a call that is no business of the key is answered with it, or ends its session: no output of the rules
   stray : Reply → Seen
 
 unfoldable pub nextState : Values → ℕ → State → Input → State

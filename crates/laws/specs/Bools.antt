@@ -39,6 +39,18 @@ neither-left a b e = or-eq-false-eq-eq-false-and-eq-false a b .0 e .0
 pub neither-right : (a b : Bool) → (a || b) ≡ false → b ≡ false
 neither-right a b e = or-eq-false-eq-eq-false-and-eq-false a b .0 e .1
 
+pub not-both : (a b : Bool) → (a && b) ≡ false → a ≡ true → b ≡ false
+not-both true b e h = e
+not-both false b e h = cc
+
+pub implied : (a b : Bool) → (not a || b) ≡ true → a ≡ true → b ≡ true
+implied true b e h = e
+implied false b e h = cc
+
+pub implies : (a b : Bool) → (a ≡ true → b ≡ true) → (not a || b) ≡ true
+implies true b f = f refl
+implies false b f = refl
+
 pub and-same : {a b x y : Bool} → a ≡ x → b ≡ y → (a && b) ≡ (x && y)
 and-same p q = rw (p, q)
 
@@ -62,6 +74,11 @@ module _ {A : Type 0} (t : Bool) (a b : A) where
 
   pub cond-false : t ≡ false → cond t a b ≡ b
   cond-false e = ap (λ (u : Bool). cond u a b) e
+
+-- a test that was passed, where its answer is not the one given
+pub passed : {A : Type 0} (t : Bool) (x y z : A) → (x ≡ z → ⊥) → cond t x y ≡ z → (t ≡ false) × (y ≡ z)
+passed true x y z n e = absurd (n e)
+passed false x y z n e = (refl, e)
 
 -- a function of the arms, or of the whole
 pub over-cond : {A B : Type 0} (f : A → B) (t : Bool) (a b : A) → cond t (f a) (f b) ≡ f (cond t a b)

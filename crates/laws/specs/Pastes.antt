@@ -18,7 +18,7 @@ paste-own d at n h =
     ∙ ap (λ (x : List ℕ). x ++ drop (at + n) d) (sym (take-add at n d))
     ∙ take-append-drop (at + n) d
 
--- a copy behind a front
+-- a copy after a front
 pub paste-behind : (p x q : List ℕ) (m k n : ℕ) → length p ≡ m → paste (p ++ x) (m + k) q n ≡ p ++ paste x k q n
 paste-behind p x q m k n e =
     let w : length p + (k + n) ≡ m + k + n = omega arith in

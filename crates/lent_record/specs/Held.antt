@@ -10,7 +10,7 @@ use Rattle.transport.specs.declared.Key.{Key}
 use Rattle.session.specs.declared.Session.{Session}
 use Rattle.session.specs.declared.State.the-variants.{Closed, Open}
 use Rattle.slots.specs.Slots.{freeSlot, freeState, isFree, stateHolds, holdsKey}
-use Rattle.record_bytes.specs.Places.{headLength, slotLength, slotPlace}
+use Rattle.record_bytes.specs.Places.{headLength, slotLength, statePlace, saPlace, daPlace, sessionPlace, slotPlace}
 use Rattle.record_bytes.specs.Layout.{sessionAt, slotAt, piecesOf, slotsAt}
 use Rattle.record_bytes.specs.Pieces.{length-pieces, byte-of}
 
@@ -30,17 +30,17 @@ freed b i h =
     let at : ℕ = slotPlace i in
     let p : List ℕ = getD (piecesOf b) i [] in
     let e : at ≡ at + 0 = omega arith in
-    ap (λ (x : ℕ). not (eqb x 1)) (ap (λ (n : ℕ). getD b n 0) e ∙ sym (byte-of b i 0 h (omega arith)))
-    ∙ free-when (sessionAt p) (eqb (getD p 0 0) 1)
+    ap (λ (x : ℕ). not (eqb x 1)) (ap (λ (n : ℕ). getD b n 0) e ∙ sym (byte-of b i statePlace h (omega arith)))
+    ∙ free-when (sessionAt p) (eqb (getD p statePlace 0) 1)
     ∙ ap isFree (sym (slot-of b i))
 
 -- Whether the bytes of a slot from a place on say that the key is open: the state, SA, DA and session number.
 abbrev pub keyOpenAt : Key → List ℕ → ℕ → Bool
 keyOpenAt k b at =
     eqb (getD b at 0) 1
-    && eqb (getD b (at + 2) 0) (k .sa .0)
-    && eqb (getD b (at + 3) 0) (k .da .0)
-    && eqb (getD b (at + 4) 0) (k .session .0)
+    && eqb (getD b (at + saPlace) 0) (k .sa .0)
+    && eqb (getD b (at + daPlace) 0) (k .da .0)
+    && eqb (getD b (at + sessionPlace) 0) (k .session .0)
 
 holds-when : (k : Key) (s : Session) (t : Bool)
     → (let h : Key = s .announced .key in
@@ -57,6 +57,11 @@ held k b i at h e =
     let p : List ℕ = getD (piecesOf b) i [] in
     let of : (j n : ℕ) → j < slotLength → n ≡ slotPlace i + j → getD b n 0 ≡ getD p j 0 =
     λ j n l q. ap (λ (m : ℕ). getD b m 0) q ∙ sym (byte-of b i j h l) in
-    same-tests (of 0 at (omega arith) (omega arith)) (of 2 (at + 2) (omega arith) (omega arith)) (of 3 (at + 3) (omega arith) (omega arith)) (of 4 (at + 4) (omega arith) (omega arith)) k
-    ∙ holds-when k (sessionAt p) (eqb (getD p 0 0) 1)
+    same-tests
+    (of statePlace at (omega arith) (omega arith))
+    (of saPlace (at + saPlace) (omega arith) (omega arith))
+    (of daPlace (at + daPlace) (omega arith) (omega arith))
+    (of sessionPlace (at + sessionPlace) (omega arith) (omega arith))
+    k
+    ∙ holds-when k (sessionAt p) (eqb (getD p statePlace 0) 1)
     ∙ ap (holdsKey k) (sym (slot-of b i))

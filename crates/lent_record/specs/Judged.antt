@@ -62,7 +62,7 @@ pieces-ready own (p ∷ ps) =
     ap (λ (t : Bool). (eqb n 0 || (codesOk n k && sessionOk own (sessionAt p) && not (anyHolds (sessionAt p .announced .key) (map slotAt ps)))) && t) (pieces-ready own ps)
     ∙ by-code own (sessionAt p) (map slotAt ps) (eqb n 0) (eqb n 1) (eqb k 1 || eqb k 2) (codesAll ps) (slotsOk own (map slotAt ps)) (two-codes n)
 
--- slot i, and those behind it
+-- slot i, and those after it
 abbrev pub readyAt : Address → List ℕ → ℕ → Bool
 readyAt own b i =
     eqb (getD b (slotPlace i) 0) 0 || openReady own (getD (piecesOf b) i []) (drop (i + 1) (piecesOf b))
@@ -110,7 +110,7 @@ eight-ready own b x y z w ex ey ez ew =
     ∙ ap (λ (t : Bool). T 0 && t) (sym (two-turn own b 2 (omega arith)))
     ∙ sym (two-turn own b 0 (omega arith))
 
--- ---- slot i by what was read of it: its two codes, its session, and whether its key is open behind it
+-- ---- slot i by what was read of it: its two codes, its session, and whether its key is open in a slot after it
 
 drop-map : (ps : List (List ℕ)) (n : ℕ) → drop n (map slotAt ps) ≡ map slotAt (drop n ps)
 drop-map ps zero = refl

@@ -11,30 +11,32 @@ use super::search::any_holds;
 use frame::Address;
 use receiver::Receiver;
 use record_bytes::places::HEAD_BYTES;
+use record_bytes::places::KIND_AT;
 use record_bytes::places::LIMIT_AT;
+use record_bytes::places::OWN_AT;
 use record_bytes::places::RECORD_BYTES;
 use record_bytes::places::SLOT_BYTES;
 use record_bytes::slot::codes_ok;
 use record_bytes::slot::session_at;
 use record_bytes::word::word_at;
-use session::bounds::session_ok;
 use slots::bounds::opening_ok;
+use slots::bounds::session_ok;
 
 // The own address. What is lent are bytes: each is below 256.
 pub fn own_of(bytes: &[u8]) -> Address
     requires { ⌜ 1 ≤ length (now bytes) ⌝ }
     ensures { λ r. ⌜ (r .0 ≡ getD (now (bytes .entry)) 0 0) × ((i : ℕ) → getD (now (bytes .entry)) i 0 < 256) ⌝ }
 {
-    Address(bytes[0])
+    Address(bytes[OWN_AT])
 }
 
-// Whether slot i, which is not free, begins with codes, is in bounds, and has no twin behind it.
+// Whether slot i, which is not free, begins with codes, is in bounds, and has no twin after it.
 fn open_ready(bytes: &[u8], i: usize, own: Address) -> bool
     requires { ⌜ (length (now bytes) ≡ recordLength) × (i < 8) ⌝ }
     ensures { λ r. ⌜ r ≡ openReady own (getD (piecesOf (now (bytes .entry))) i []) (drop (i + 1) (piecesOf (now (bytes .entry)))) ⌝ }
 {
     let at = HEAD_BYTES + SLOT_BYTES * i;
-    if !codes_ok(bytes[at], bytes[at + 1]) {
+    if !codes_ok(bytes[at], bytes[at + KIND_AT]) {
         return false;
     }
     let end = at + SLOT_BYTES;
@@ -67,10 +69,16 @@ fn slots_ready(bytes: &[u8], own: Address) -> bool
     requires { ⌜ length (now bytes) ≡ recordLength ⌝ }
     ensures { λ r. ⌜ r ≡ piecesReady own (piecesOf (now (bytes .entry))) ⌝ }
 {
-    two_ready(bytes, 0, own)
-        & two_ready(bytes, 2, own)
-        & two_ready(bytes, 4, own)
-        & two_ready(bytes, 6, own)
+    if !two_ready(bytes, 0, own) {
+        return false;
+    }
+    if !two_ready(bytes, 2, own) {
+        return false;
+    }
+    if !two_ready(bytes, 4, own) {
+        return false;
+    }
+    two_ready(bytes, 6, own)
 }
 
 // Whether the buffer is a record in bounds, and a store of so many bytes has the right length.
@@ -83,7 +91,7 @@ pub fn is_ready(bytes: &[u8], store: usize) -> bool
     if store != Receiver::SLOTS * Receiver::SLOT_BYTES {
         return false;
     }
-    let own = Address(bytes[0]);
+    let own = Address(bytes[OWN_AT]);
     if !opening_ok(own, word_at(bytes, LIMIT_AT)) {
         return false;
     }

@@ -5,9 +5,12 @@ ghost use lib.ListN.{length, getD, drop};
 ghost use Rattle.slots.specs.Slots.{freeSlot, isFree, firstFree, keyPlace, slotFor, stateIn, Within};
 ghost use Rattle.slots.specs.Bounds.{anyHolds};
 ghost use Rattle.record_bytes.specs.Layout.{slotsAt};
-ghost use Rattle.record_bytes.specs.Places.{recordLength};
+ghost use Rattle.record_bytes.specs.Places.{recordLength, sessionPlace};
 ghost use Rattle.lent_record.specs.Held.{keyOpenAt};
+use record_bytes::places::DA_AT;
 use record_bytes::places::HEAD_BYTES;
+use record_bytes::places::SA_AT;
+use record_bytes::places::SESSION_AT;
 use record_bytes::places::SLOT_BYTES;
 use record_bytes::slot::slot_at;
 use session::State;
@@ -26,16 +29,16 @@ fn is_free(bytes: &[u8], i: usize) -> bool
 
 // Whether the slot that starts at a place has the key open.
 fn holds_key(bytes: &[u8], at: usize, k: Key) -> bool
-    requires { ⌜ at + 4 < length (now bytes) ⌝ }
+    requires { ⌜ at + sessionPlace < length (now bytes) ⌝ }
     ensures { λ r. ⌜ r ≡ keyOpenAt k (now (bytes .entry)) at ⌝ }
 {
     if bytes[at] != 1 {
         return false;
     }
-    if bytes[at + 2] != k.sa.0 {
+    if bytes[at + SA_AT] != k.sa.0 {
         return false;
     }
-    (bytes[at + 3] == k.da.0) & (bytes[at + 4] == k.session.0)
+    (bytes[at + DA_AT] == k.da.0) & (bytes[at + SESSION_AT] == k.session.0)
 }
 
 // Whether a slot from the one given on has the key open.

@@ -35,7 +35,7 @@ dataLength d at = getD d (at + 3) 0
 abbrev pub groupAt : List ℕ → ℕ → Group
 groupAt d at = record { pgn = pgnAt d at; start = at + 4; len = dataLength d at }
 
--- what stands at a place, in 01's order: end, 4, 6, 7, 8, 5
+-- what is at a place, in 01's order: end, 4, 6, 7, 8, 5
 abbrev pub stepAt : List ℕ → ℕ → Step
 stepAt d at =
     cond (leb (length d) at) step.End
@@ -50,40 +50,40 @@ stepAt d at =
 -- ---- a whole frame
 
 -- all groups, or the first fault met
-pub data Reading : Type 0 where
-  good : List Group → Reading
-  bad : Refusal → Reading
+pub data GroupsRead : Type 0 where
+  good : List Group → GroupsRead
+  bad : Refusal → GroupsRead
 
-abbrev pub after : Group → Reading → Reading
+abbrev pub after : Group → GroupsRead → GroupsRead
 after g (good gs) = good (g ∷ gs)
 after g (bad r) = bad r
 
--- by what stands at a place: the end, a fault, or a group and what follows it
-abbrev pub onStep : Step → (Group → Reading) → Reading
+-- by what is at a place: the end, a fault, or a group and what follows it
+abbrev pub onStep : Step → (Group → GroupsRead) → GroupsRead
 onStep step.End rest = good []
 onStep (step.Fault r) rest = bad r
 onStep (step.At g) rest = after g (rest g)
 
 -- the groups from a place on, at most n of them
-unfoldable pub readFrom : ℕ → List ℕ → ℕ → Reading
+unfoldable pub readFrom : ℕ → List ℕ → ℕ → GroupsRead
 readFrom zero d at = good []
 readFrom (suc n) d at = onStep (stepAt d at) (λ g. readFrom n d (g .start + g .len))
 
 -- a group takes 4 bytes at least, so a frame has no more groups than bytes
-unfoldable pub reading : List ℕ → Reading
-reading d = readFrom (suc (length d)) d 0
+unfoldable pub groupsRead : List ℕ → GroupsRead
+groupsRead d = readFrom (suc (length d)) d 0
 
-abbrev pub judgementOf : Reading → Judgement
+abbrev pub judgementOf : GroupsRead → Judgement
 judgementOf (good gs) = judgement.Good
 judgementOf (bad r) = judgement.Refused r
 
 -- a refused frame gives out no group
-abbrev pub groupsIn : Reading → List Group
+abbrev pub groupsIn : GroupsRead → List Group
 groupsIn (good gs) = gs
 groupsIn (bad r) = []
 
 abbrev pub groupsOf : List ℕ → List Group
-groupsOf d = groupsIn (reading d)
+groupsOf d = groupsIn (groupsRead d)
 
 -- ---- a reader: the place that it has come to
 
@@ -93,7 +93,7 @@ startAt n (judgement.Refused r) = n
 
 -- where a reader begins: at the end, if the frame is refused
 abbrev pub startOf : List ℕ → ℕ
-startOf d = startAt (length d) (judgementOf (reading d))
+startOf d = startAt (length d) (judgementOf (groupsRead d))
 
 abbrev pub onNext : Step → Next
 onNext (step.At g) = next.Given g (record { at = g .start + g .len })

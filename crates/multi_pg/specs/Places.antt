@@ -1,4 +1,4 @@
--- Where a group stands, and how a reading goes from place to place: laws of the definitions in Groups.
+-- Where a group is, and how a frame is read from place to place: laws of the definitions in Groups.
 use Prim.Native.Nat.{ℕ, zero, suc, _+_, _-_, _/_, _%_, _≤_, _<_}
 use native.Mathlib.Omega.{arith}
 use mathlib.Core.Path.{_≡_, refl, sym, ap, _∙_}
@@ -16,12 +16,12 @@ use Rattle.multi_pg.specs.declared.Step.{Step}
 use Rattle.multi_pg.specs.declared.Step.the-variants as step
 use Rattle.multi_pg.specs.declared.Judgement.the-variants as judgement
 use Rattle.multi_pg.specs.declared.Next.the-variants as next
-use Rattle.multi_pg.specs.Groups.{tos, tf, pgnAt, dataLength, groupAt, stepAt, Reading, good, bad, after, onStep, readFrom, reading, judgementOf, nextAt, onNext}
+use Rattle.multi_pg.specs.Groups.{tos, tf, pgnAt, dataLength, groupAt, stepAt, GroupsRead, good, bad, after, onStep, readFrom, groupsRead, judgementOf, nextAt, onNext}
 use Rattle.multi_pg.specs.Header.{plainHead}
 
 -- ---- a place
 
--- a whole plain group stands at a place
+-- a whole plain group is at a place
 pub record Plain (d : List ℕ) (at : ℕ) : Type 0 where
   pub whole : at + 4 + dataLength d at ≤ length d
   pub service : tos d at ≡ 2
@@ -72,10 +72,10 @@ step-plain d at g e0 =
       sym e8,
     )
 
--- ---- a reading, place by place
+-- ---- a frame read, place by place
 
--- what follows a step matters only where a group stands
-same-after : (s : Step) (f h : Group → Reading) → ((g : Group) → s ≡ step.At g → f g ≡ h g) → onStep s f ≡ onStep s h
+-- what follows a step matters only where there is a group
+same-after : (s : Step) (f h : Group → GroupsRead) → ((g : Group) → s ≡ step.At g → f g ≡ h g) → onStep s f ≡ onStep s h
 same-after (step.At g) f h e = ap (after g) (e g refl)
 same-after step.End f h e = refl
 same-after (step.Fault r) f h e = refl
@@ -98,8 +98,8 @@ enough (suc n) (suc m) d at h k =
     let (a, b) = step-room d at g e in
     enough n m d (g .start + g .len) (omega arith) (omega arith))
 
--- the reading from a place on
-unfoldable pub readOn : List ℕ → ℕ → Reading
+-- what is read from a place on
+unfoldable pub readOn : List ℕ → ℕ → GroupsRead
 readOn d at = readFrom (suc (length d - at)) d at
 
 pub read-turn : (d : List ℕ) (at : ℕ) → readOn d at ≡ onStep (stepAt d at) (λ g. readOn d (g .start + g .len))
@@ -110,11 +110,11 @@ read-turn d at =
     let (a, b) = step-room d at g e in
     enough (length d - at) (suc (length d - (g .start + g .len))) d (g .start + g .len) (omega arith) (omega arith))
 
-pub read-all : (d : List ℕ) → reading d ≡ readOn d 0
-unfolding reading readOn
+pub read-all : (d : List ℕ) → groupsRead d ≡ readOn d 0
+unfolding groupsRead readOn
 read-all d = enough (suc (length d)) (suc (length d - 0)) d 0 (omega arith) (omega arith)
 
-judged-after : (g : Group) (r : Reading) → judgementOf (after g r) ≡ judgementOf r
+judged-after : (g : Group) (r : GroupsRead) → judgementOf (after g r) ≡ judgementOf r
 judged-after g (good gs) = refl
 judged-after g (bad r) = refl
 

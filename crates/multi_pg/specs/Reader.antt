@@ -1,4 +1,4 @@
--- What a reader gives out, from its first place to its end: the groups of the frame's reading, in order, each with its bytes.
+-- What a reader gives out, from its first place to its end: the groups of the frame, in order, each with its bytes.
 use Prim.Native.Nat.{ℕ, zero, suc, _+_, _-_, _≤_, _<_}
 use native.Mathlib.Omega.{arith}
 use mathlib.Core.Path.{_≡_, refl, sym, ap, subst, _∙_}
@@ -10,7 +10,7 @@ use Rattle.multi_pg.specs.declared.Cursor.{Cursor}
 use Rattle.multi_pg.specs.declared.Step.{Step}
 use Rattle.multi_pg.specs.declared.Step.the-variants as step
 use Rattle.multi_pg.specs.declared.Next.the-variants as next
-use Rattle.multi_pg.specs.Groups.{dataLength, groupAt, stepAt, Reading, good, bad, after, onStep, readFrom, reading, judgementOf, groupsIn, groupsOf, startAt, startOf, onNext, nextAt, contentOf}
+use Rattle.multi_pg.specs.Groups.{dataLength, groupAt, stepAt, GroupsRead, good, bad, after, onStep, readFrom, groupsRead, judgementOf, groupsIn, groupsOf, startAt, startOf, onNext, nextAt, contentOf}
 use Rattle.multi_pg.specs.Places.{Plain, plain-step, step-plain, step-room, readOn, read-all, read-group, read-end, short-none}
 
 -- ---- what is given out
@@ -25,21 +25,21 @@ pub data Chain (d : List ℕ) : ℕ → List Group → Type 0 where
   last : {at : ℕ} → stepAt d at ≡ step.End → Chain d at []
   link : {at : ℕ} {gs : List Group} → Plain d at → Chain d (at + 4 + dataLength d at) gs → Chain d at (groupAt d at ∷ gs)
 
--- a group is the one whose header stands before its data, and its data lies in the frame
+-- a group is the one whose header comes before its data, and its data lies in the frame
 pub record Stands (d : List ℕ) (g : Group) : Type 0 where
   pub header : 4 ≤ g .start
   pub inside : g .start + g .len ≤ length d
   pub own : g ≡ groupAt d (g .start - 4)
 
--- ---- a reading that is good is a chain, and the other way round
+-- ---- a frame read as good is a chain, and the other way round
 
-after-good : (g : Group) (r : Reading) (gs : List Group) → after g r ≡ good gs → (hs : List Group) × (r ≡ good hs) × (g ∷ hs ≡ gs)
+after-good : (g : Group) (r : GroupsRead) (gs : List Group) → after g r ≡ good gs → (hs : List Group) × (r ≡ good hs) × (g ∷ hs ≡ gs)
 after-good g (good hs) gs e = (hs, refl, cc)
 after-good g (bad r) gs e = absurd (let z : _≡_ {A = ℕ} 0 1 = cc in omega arith)
 
 module _ (d : List ℕ) where
   -- a place of a chain, if what follows it is one
-  chain-step : (at : ℕ) (gs : List Group) (s : Step) (f : Group → Reading) → stepAt d at ≡ s → onStep s f ≡ good gs
+  chain-step : (at : ℕ) (gs : List Group) (s : Step) (f : Group → GroupsRead) → stepAt d at ≡ s → onStep s f ≡ good gs
       → ((g : Group) (hs : List Group) → stepAt d at ≡ step.At g → f g ≡ good hs → Chain d (g .start + g .len) hs) → Chain d at gs
   chain-step at gs (step.At g) f q e rest =
       let (hs, r, p) = after-good g (f g) gs e in
@@ -57,15 +57,15 @@ module _ (d : List ℕ) where
       chain-step at gs (stepAt d at) (λ g. readFrom n d (g .start + g .len)) refl e
       (λ g hs q r. chain-by n (g .start + g .len) hs r (omega (arith, step-room d at g q)))
 
-  pub good-chain : (gs : List Group) → reading d ≡ good gs → Chain d 0 gs
-  unfolding reading
+  pub good-chain : (gs : List Group) → groupsRead d ≡ good gs → Chain d 0 gs
+  unfolding groupsRead
   good-chain gs e = chain-by (suc (length d)) 0 gs e (omega arith)
 
   chain-reads : {at : ℕ} {gs : List Group} → Chain d at gs → readOn d at ≡ good gs
   chain-reads {at} (last q) = read-end d at q
   chain-reads {at} (link p c) = read-group d at (groupAt d at) (plain-step d at p) ∙ ap (after (groupAt d at)) (chain-reads c)
 
-  pub chain-good : (gs : List Group) → Chain d 0 gs → reading d ≡ good gs
+  pub chain-good : (gs : List Group) → Chain d 0 gs → groupsRead d ≡ good gs
   chain-good gs c = read-all d ∙ chain-reads c
 
   -- ---- the reader
@@ -74,13 +74,13 @@ module _ (d : List ℕ) where
   chain-yields (last q) = done (ap onNext q)
   chain-yields {at} (link p c) = more (ap onNext (plain-step d at p)) (chain-yields c)
 
-  yields-by : (r : Reading) → reading d ≡ r → Yields d (startAt (length d) (judgementOf r)) (groupsIn r)
+  yields-by : (r : GroupsRead) → groupsRead d ≡ r → Yields d (startAt (length d) (judgementOf r)) (groupsIn r)
   yields-by (good gs) e = chain-yields (good-chain gs e)
   yields-by (bad r) e = done (short-none d (length d) (omega arith))
 
-  -- A reader over any bytes gives out the groups of their reading, all and in order; of a refused frame none.
+  -- A reader over any bytes gives out the groups that they hold, all and in order; of a refused frame none.
   pub yields-all : Yields d (startOf d) (groupsOf d)
-  yields-all = yields-by (reading d) refl
+  yields-all = yields-by (groupsRead d) refl
 
   -- And nothing else: from one place there is one list.
   pub yields-one : {at : ℕ} {gs hs : List Group} → Yields d at gs → Yields d at hs → gs ≡ hs
@@ -93,7 +93,7 @@ module _ (d : List ℕ) where
       let tail : gs ≡ hs = yields-one x (subst (λ (c : Cursor). Yields d (c .at) hs) there y) in
       cc
 
-  -- ---- where the groups stand
+  -- ---- where the groups are
 
   chain-stands : {at : ℕ} {gs : List Group} (o : Group) (i : ℕ) → Chain d at gs → i < length gs → Stands d (getD gs i o)
   chain-stands o i (last q) h = absurd (omega arith)
@@ -113,9 +113,9 @@ module _ (d : List ℕ) where
 
   -- what holds of no groups and of every chain holds of the groups given out
   groups-by : (P : List Group → Type 0) → P [] → ((gs : List Group) → Chain d 0 gs → P gs) → P (groupsOf d)
-  groups-by P none some = go (reading d) refl
+  groups-by P none some = go (groupsRead d) refl
     where
-      go : (r : Reading) → reading d ≡ r → P (groupsIn r)
+      go : (r : GroupsRead) → groupsRead d ≡ r → P (groupsIn r)
       go (good gs) e = some gs (good-chain gs e)
       go (bad r) e = none
 

@@ -5,14 +5,14 @@ ghost use mathlib.Core.Path.{_≡_};
 ghost use Rattle.multi_pg.specs.Groups.{startOf, nextAt};
 use frame::refusal::Refusal;
 
-// A group that stands in a frame: its PGN, and where its data starts and how long it is.
+// A group in a frame: its PGN, and where its data starts and how long it is.
 pub struct Group {
     pub pgn: u32,
     pub start: usize,
     pub len: usize,
 }
 
-// What stands at a place of a frame.
+// What is at a place of a frame.
 pub enum Step {
     At(Group),
     End,

@@ -1,6 +1,6 @@
 // A Multi-PG frame read at a place, and judged whole (01, "Groups in one frame").
 ghost use mathlib.Core.Path.{_≡_};
-ghost use Rattle.multi_pg.specs.Groups.{stepAt, judgementOf, reading};
+ghost use Rattle.multi_pg.specs.Groups.{stepAt, judgementOf, groupsRead};
 ghost use Rattle.multi_pg.specs.Header.{pgnOf, headed, plainHead};
 use super::Group;
 use super::Judgement;
@@ -41,7 +41,7 @@ pub fn is_plain(first: u8, pgn: u32, len: usize, room: usize) -> bool
     (first / 4 == 16) & ((240 <= pgn / 256 % 256) | (pgn % 256 == 0)) & (len <= room)
 }
 
-// What stands at a place of a frame.
+// What is at a place of a frame.
 pub fn step(frame: &[u8], at: usize) -> Step
     ensures { λ r. ⌜ r ≡ stepAt (now (frame .entry)) at ⌝ }
 {
@@ -63,7 +63,7 @@ pub fn step(frame: &[u8], at: usize) -> Step
 
 // The judgement on a whole frame: the first fault met refuses it.
 pub fn judge(frame: &[u8]) -> Judgement
-    ensures { λ r. ⌜ r ≡ judgementOf (reading (now (frame .entry))) ⌝ }
+    ensures { λ r. ⌜ r ≡ judgementOf (groupsRead (now (frame .entry))) ⌝ }
 {
     let mut at: usize = 0;
     loop {

@@ -38,7 +38,8 @@ module _ (o : List ℕ) (at : ℕ) (h : List ℕ) (m : ℕ) (s : List ℕ) (n : 
       ∙ ap (drop n) (drop-paste o at h m (omega arith) (omega arith))
       ∙ drop-drop n (at + m) o
 
-module _ (ps ns d o₀ o : List ℕ) (i at from : ℕ) (even : length ps ≡ length ns) (whole : length d ≡ sum ns) (room : needed ns ≤ length o₀) (w : Written ps ns d o₀ o i at from) (low : i < length ps) where
+module _ (ps ns d o₀ o : List ℕ) (i at from : ℕ) (even : length ps ≡ length ns) (whole : length d ≡ sum ns) (room : needed ns ≤ length o₀)
+    (w : Written ps ns d o₀ o i at from) (low : i < length ps) where
   need-turn : needed (drop i ns) ≡ 4 + getD ns i 0 + needed (drop (i + 1) ns)
   need-turn = let t : needed (drop i ns) ≡ needed (getD ns i 0 ∷ drop (i + 1) ns) = turn needed ns i 0 (omega arith) in omega arith
 

@@ -77,7 +77,7 @@ record Told (F : List ℕ) (at : ℕ) (cs : List Content) : Type 0 where
 pgn-whole : (p : ℕ) → p < 262144 → 65536 * ((64 + p / 65536 % 4) % 4) + 256 * (p / 256 % 256) + p % 256 ≡ p
 pgn-whole p h = omega arith
 
--- a header and the bytes after it, behind any bytes
+-- a header and the bytes after it, after any bytes
 module _ (p n : ℕ) (pre X F : List ℕ) (at : ℕ) (eF : F ≡ pre ++ (headerOf p n ++ X)) (ea : at ≡ length pre) (ok : pgnOk p ≡ true) where
   header-at : (k : ℕ) → getD F (at + k) 0 ≡ getD (headerOf p n ++ X) k 0
   header-at k =

@@ -18,7 +18,7 @@ pub enum Packed {
     Refused(Refusal),
 }
 
-// Packs a group for each PGN, with the number of data bytes that stands at the same place of lengths; data holds their bytes back to back.
+// Packs a group for each PGN, with the number of data bytes at the same place of lengths; data holds their bytes back to back.
 pub fn pack(pgns: &[u32], lengths: &[u8], data: &[u8], out: &mut [u8]) -> Packed
     ensures { λ r. ⌜ (r, now (out .exit)) ≡ packed (now (pgns .entry)) (now (lengths .entry)) (now («data» .entry)) (now (out .entry)) ⌝ }
 {

@@ -56,7 +56,7 @@ fn advance(p: Progress, a: Announced, n: SegmentNumber, last: u32) -> Progress
     }
 }
 
-// The progress that stands behind p is brought forward by segment n.
+// The progress that p lends is brought forward by segment n.
 pub fn bring_forward(p: &mut Progress, a: Announced, n: SegmentNumber, last: u32)
     requires { ⌜ n .0 < 16777216 ⌝ }
     ensures { λ _. ⌜ now (p .exit) ≡ advancedBy (now (p .entry)) a (n .0) last ⌝ }

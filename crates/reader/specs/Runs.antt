@@ -12,7 +12,7 @@ use Rattle.multi_pg.specs.Groups.{groupsOf, startOf, nextAt}
 use Rattle.multi_pg.specs.Reader.{Yields, done, more, yields-all, yields-one}
 use Rattle.reader.specs.declared.Reader.{Reader}
 
--- the place behind the group that is given out; at the end there is none, and the place stays
+-- the place after the group that is given out; at the end there is none, and the place stays
 abbrev pub behind : ℕ → Next → ℕ
 behind at (next.Given g to) = to .at
 behind at next.End = at

@@ -26,7 +26,7 @@ fn next_at(frame: &[u8], at: usize) -> Next
     reader.next(frame)
 }
 
-// Behind the group at a place; where none stands, the place itself.
+// After the group at a place; where there is none, the place itself.
 fn rest_at(frame: &[u8], at: usize) -> usize
     ensures { λ r. ⌜ r ≡ restAt (now (frame .entry)) at ⌝ }
 {

@@ -12,7 +12,7 @@ use Rattle.frame.specs.declared.judge.Verdict.{Verdict}
 use Rattle.frame.specs.declared.judge.Verdict.the-variants as verdict
 use Rattle.frame.specs.declared.refusal.Refusal.{Refusal}
 use Rattle.frame.specs.declared.refusal.Refusal.the-variants.{OutOfBounds}
-use Rattle.multi_pg.specs.Groups.{Reading, good, bad, reading}
+use Rattle.multi_pg.specs.Groups.{GroupsRead, good, bad, groupsRead}
 use Rattle.transport.specs.declared.Key.{Key}
 use Rattle.transport.specs.declared.control.Announcement.{Announcement}
 use Rattle.transport.specs.declared.control.Status.{Status}
@@ -141,12 +141,12 @@ onData (dataframe.Refused n) r k d m = (refused r n, m)
 abbrev pub isReady : Receiver → List ℕ → Bool
 isReady r m = eqb (length m) 32768 && inBounds r
 
-abbrev pub groupsStep : Reading → Route → Receiver → Stepped
+abbrev pub groupsStep : GroupsRead → Route → Receiver → Stepped
 groupsStep (good gs) route r = answered r (Groups route)
 groupsStep (bad n) route r = refused r n
 
 abbrev pub onVerdict : Verdict → Receiver → List ℕ → List ℕ → Outcome
-onVerdict (verdict.MultiPg route) r d m = (groupsStep (reading d) route r, m)
+onVerdict (verdict.MultiPg route) r d m = (groupsStep (groupsRead d) route r, m)
 onVerdict (verdict.Control route) r d m = (controlStep r route d, m)
 onVerdict (verdict.Data route) r d m = onData (dataFrameOf d) r (keyOf route d) d m
 onVerdict (verdict.Refused n) r d m = (refused r n, m)

@@ -1,5 +1,5 @@
 -- A turn of the loop that puts the slots over the pieces before them.
-use Prim.Native.Nat.{ℕ, suc, _+_, _-_, _≤_, _<_}
+use Prim.Native.Nat.{ℕ, suc, _+_, _<_}
 use native.Mathlib.Omega.{arith}
 use native.Mathlib.Numerals.{add-one}
 use mathlib.Core.Path.{_≡_, sym, ap, _∙_}
@@ -8,14 +8,12 @@ use mathlib.Core.List.{List, [], _∷_, _++_, append-assoc, append-nil}
 use lib.Dec.{eqb}
 use lib.ListN.{length, getD, take, drop, length-drop, drop-of-length-le}
 use lib.Seq.{paste, take-paste, drop-paste, length-paste, take-all, drop-cons, drop-drop, length-take-le}
-use Rattle.laws.specs.Pastes.{paste-own}
 use Rattle.slots.specs.declared.Slot.{Slot}
 use Rattle.slots.specs.Slots.{isFree}
-use Rattle.receiver.specs.declared.Receiver.{Receiver}
-use Rattle.record_bytes.specs.Places.{recordLength, headLength, slotLength, slotPlace}
-use Rattle.record_bytes.specs.Layout.{slotBytes, headBytes, pieces, piecesOf}
-use Rattle.record_bytes.specs.Pieces.{length-slot, length-pieces, piece-of, byte-of}
-use Rattle.record_bytes.specs.Keeping.{kept, merged, putIn}
+use Rattle.record_bytes.specs.Places.{recordLength, headLength, slotLength, statePlace, slotPlace}
+use Rattle.record_bytes.specs.Layout.{slotBytes, pieces, piecesOf}
+use Rattle.record_bytes.specs.Pieces.{length-slot, length-pieces, piece-of}
+use Rattle.record_bytes.specs.Keeping.{kept, merged}
 
 module _ (o : List ℕ) (i : ℕ) (s : Slot) (long : length o ≡ recordLength) (low : i < 8) where
   abbrev at : ℕ
@@ -27,31 +25,12 @@ module _ (o : List ℕ) (i : ℕ) (s : Slot) (long : length o ≡ recordLength) 
   piece-long : length piece ≡ slotLength
   piece-long = ap length (piece-of o i low) ∙ length-take-le slotLength (drop at o) (simp length-drop (omega arith))
 
-  code-of : getD piece 0 0 ≡ getD o at 0
-  code-of = let e : at + 0 ≡ at = omega arith in byte-of o i 0 low (omega arith) ∙ ap (λ (k : ℕ). getD o k 0) e
-
   pub kept-long : length (kept piece s) ≡ slotLength
-  kept-long = by (isFree s && eqb (getD piece 0 0) 0)
+  kept-long = by (isFree s && eqb (getD piece statePlace 0) 0)
     where
       by : (t : Bool) → length (cond t piece (slotBytes s)) ≡ slotLength
       by true = piece-long
       by false = length-slot s
-
-  kept-by : (t : Bool) → t ≡ (isFree s && eqb (getD o at 0) 0) → kept piece s ≡ cond t piece (slotBytes s)
-  kept-by t e =
-      ap (λ (x : ℕ). cond (isFree s && eqb x 0) piece (slotBytes s)) code-of ∙ ap (λ (u : Bool). cond u piece (slotBytes s)) (sym e)
-
-  -- a slot that stays free
-  pub kept-free : (t : Bool) → t ≡ (isFree s && eqb (getD o at 0) 0) → t ≡ true → o ≡ paste o at (kept piece s) slotLength
-  kept-free t e q =
-      sym
-      (ap (λ (x : List ℕ). paste o at x slotLength) (kept-by t e ∙ ap (λ (u : Bool). cond u piece (slotBytes s)) q ∙ piece-of o i low)
-      ∙ paste-own o at slotLength (omega arith))
-
-  -- one that is written
-  pub kept-put : (t : Bool) (o′ : List ℕ) → t ≡ (isFree s && eqb (getD o at 0) 0) → t ≡ false → o′ ≡ paste o at (slotBytes s) slotLength → o′ ≡ paste o at (kept piece s) slotLength
-  kept-put t o′ e q p =
-      p ∙ ap (λ (x : List ℕ). paste o at x slotLength) (sym (kept-by t e ∙ ap (λ (u : Bool). cond u piece (slotBytes s)) q))
 
 module _ (ss : List Slot) (o₀ o o′ : List ℕ) (i : ℕ) (d : Slot) (eight : length ss ≡ 8) (long : length o ≡ recordLength) (low : i < 8)
     (e : o′ ≡ paste o (slotPlace i) (kept (getD (piecesOf o) i []) (getD ss i d)) slotLength) where
@@ -99,19 +78,12 @@ module _ (ss : List Slot) (o₀ o o′ : List ℕ) (i : ℕ) (d : Slot) (eight :
         ∙ inv
 
 -- after the last slot
-pub keeps-all : (ss : List Slot) (o o₀ w : List ℕ) (i : ℕ) → length ss ≡ 8 → length o ≡ recordLength → i ≡ 8 → take (slotPlace i) o ++ merged (drop i (piecesOf o₀)) (drop i ss) ≡ w → o ≡ w
+pub keeps-all : (ss : List Slot) (o o₀ w : List ℕ) (i : ℕ) → length ss ≡ 8 → length o ≡ recordLength → i ≡ 8
+    → take (slotPlace i) o ++ merged (drop i (piecesOf o₀)) (drop i ss) ≡ w → o ≡ w
 unfolding merged
 keeps-all ss o o₀ w i eight long e inv =
     sym (take-all (slotPlace i) o (omega arith))
     ∙ sym (append-nil (take (slotPlace i) o))
-    ∙ ap (λ (l : List (List ℕ)). take (slotPlace i) o ++ merged l (drop i ss)) (sym (drop-of-length-le (piecesOf o₀) {i = i} (omega (arith, length-pieces 8 (drop headLength o₀)))))
+    ∙ ap (λ (l : List (List ℕ)). take (slotPlace i) o ++ merged l (drop i ss))
+    (sym (drop-of-length-le (piecesOf o₀) {i = i} (omega (arith, length-pieces 8 (drop headLength o₀)))))
     ∙ inv
-
--- the head, and then the slots
-pub record-put : (r : Receiver) (d o₁ o₂ head : List ℕ) → length d ≡ recordLength → head ≡ headBytes r → o₁ ≡ paste d 0 head headLength → o₂ ≡ take headLength o₁ ++ merged (piecesOf o₁) (r .slots) → o₂ ≡ putIn d r
-unfolding putIn headBytes
-record-put r d o₁ o₂ head long eh e₁ e₂ =
-    let n : length head ≡ headLength = ap length eh in
-    e₂
-    ∙ ap (λ (l : List ℕ). l ++ merged (piecesOf o₁) (r .slots)) (ap (take headLength) e₁ ∙ take-paste d 0 head headLength (omega arith) (omega arith) ∙ take-all headLength head (omega arith) ∙ eh)
-    ∙ ap (λ (l : List ℕ). headBytes r ++ merged (pieces 8 l) (r .slots)) (ap (drop headLength) e₁ ∙ drop-paste d 0 head headLength (omega arith) (omega arith))

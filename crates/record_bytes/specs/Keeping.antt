@@ -8,11 +8,12 @@ use lib.ListN.{getD}
 use Rattle.slots.specs.declared.Slot.{Slot}
 use Rattle.slots.specs.Slots.{isFree}
 use Rattle.receiver.specs.declared.Receiver.{Receiver}
+use Rattle.record_bytes.specs.Places.{statePlace}
 use Rattle.record_bytes.specs.Layout.{slotBytes, headBytes, piecesOf}
 
 -- a slot over its piece
 abbrev pub kept : List ℕ → Slot → List ℕ
-kept p s = cond (isFree s && eqb (getD p 0 0) 0) p (slotBytes s)
+kept p s = cond (isFree s && eqb (getD p statePlace 0) 0) p (slotBytes s)
 
 unfoldable pub merged : List (List ℕ) → List Slot → List ℕ
 merged [] ss = []

@@ -5,8 +5,8 @@ use mathlib.Core.Path.{_≡_, refl, sym, ap, _∙_}
 use mathlib.Core.Bool.{Bool, true, false, cond, _&&_, _||_, false≢true}
 use mathlib.Core.List.{List, [], _∷_, _++_, map}
 use lib.Dec.{eqb}
-use lib.ListN.{length, getD, set, take, drop, length-drop, length-append, take-append-drop, List·getD-map}
-use lib.Seq.{paste, drop-cons, getD-drop, take-all, take-take, take-add, take-append-add, take-append-le, drop-append-add, drop-at, length-take-le}
+use lib.ListN.{length, getD, set, take, drop, length-drop, take-append-drop, List·getD-map}
+use lib.Seq.{paste, drop-cons, getD-drop, take-all, take-take, take-append-le, drop-at, length-take-le}
 use borrow.Author.Tests.{eqb-true}
 use Rattle.laws.specs.Bools.{guard-passed}
 use Rattle.laws.specs.Pastes.{paste-behind, paste-rest}
@@ -18,7 +18,8 @@ use Rattle.session.specs.declared.State.{State}
 use Rattle.session.specs.declared.State.the-variants.{Closed, Open}
 use Rattle.slots.specs.Slots.{freeSlot, isFree}
 use Rattle.receiver.specs.Calls.{withSlot}
-use Rattle.record_bytes.specs.Places.{headLength, slotLength, limitPlace, lastPlace, announcedLength, progressLength, slotPlace, progressPlace}
+use Rattle.record_bytes.specs.Places.{headLength, slotLength, announcedLength, progressLength, slotPlace, progressPlace}
+use Rattle.record_bytes.specs.Places.{limitPlace, lastPlace, statePlace, kindPlace, totalPlace, segmentsPlace, pgnPlace, nextPlace, grantedPlace, markPlace}
 use Rattle.record_bytes.specs.Layout.{low4, low32, kindByte, kindAt, progressBytes, sessionBytes, sessionAt, slotBytes, codesOk, slotAt, headBytes, pieces, piecesOf, codesAll, slotsAt, isRecord, recordAt}
 use Rattle.record_bytes.specs.Written.{both, same-byte, low4-bytes}
 use Rattle.record_bytes.specs.Pieces.{length-slot, length-pieces, piece-of, record-long, record-codes}
@@ -81,7 +82,7 @@ four p at h e =
 pub record Good (p : List ℕ) : Type 0 where
   pub long : length p ≡ slotLength
   pub bytes : Bytes p
-  pub codes : codesOk (getD p 0 0) (getD p 1 0) ≡ true
+  pub codes : codesOk (getD p statePlace 0) (getD p kindPlace 0) ≡ true
 
 kind-of : (n : ℕ) (t : Bool) → eqb n 2 ≡ t → (eqb n 1 || eqb n 2) ≡ true → n ≡ kindByte (kindAt n)
 kind-of n true e h = eqb-true n 2 e ∙ ap (λ (t : Bool). kindByte (cond t Bam Rts)) (sym e)
@@ -92,7 +93,8 @@ kind-of n false e h = one (eqb n 1) refl
     one false q = absurd (false≢true (sym e ∙ sym (ap (λ (t : Bool). t || eqb n 2) q) ∙ h))
 
 -- an open slot's piece is the bytes of its session
-session-spelled : (p : List ℕ) → length p ≡ slotLength → Bytes p → getD p 0 0 ≡ 1 → getD p 1 0 ≡ kindByte (kindAt (getD p 1 0)) → p ≡ sessionBytes (sessionAt p)
+session-spelled : (p : List ℕ) → length p ≡ slotLength → Bytes p → getD p statePlace 0 ≡ 1
+    → getD p kindPlace 0 ≡ kindByte (kindAt (getD p kindPlace 0)) → p ≡ sessionBytes (sessionAt p)
 unfolding sessionBytes
 session-spelled p long h e k =
     sym (take-all slotLength p (omega arith))
@@ -102,13 +104,13 @@ session-spelled p long h e k =
     (same-byte _
     (same-byte _
     (same-byte _
-    (four p 5 h
-    (four p 9 h
+    (four p totalPlace h
+    (four p segmentsPlace h
     (same-byte _
-    (four p 14 h
-    (four p announcedLength h
-    (four p 22 h
-    (four p 26 h refl)))))))))))
+    (four p pgnPlace h
+    (four p nextPlace h
+    (four p grantedPlace h
+    (four p markPlace h refl)))))))))))
 
 -- what the codes of a piece leave: open with a kind, or free
 codes-open : (x k : ℕ) (u : Bool) → eqb x 0 ≡ u → eqb x 1 ≡ true → codesOk x k ≡ true → (eqb k 1 || eqb k 2) ≡ true
@@ -127,19 +129,20 @@ module _ (p : List ℕ) (g : Good p) where
   abbrev slotBy : Bool → Slot
   slotBy t = record { state = cond t (Open (sessionAt p)) Closed }
 
-  kept-by : (t : Bool) → eqb (getD p 0 0) 1 ≡ t → kept p (slotBy t) ≡ p
+  kept-by : (t : Bool) → eqb (getD p statePlace 0) 1 ≡ t → kept p (slotBy t) ≡ p
   kept-by true e =
-      let k : (eqb (getD p 1 0) 1 || eqb (getD p 1 0) 2) ≡ true = codes-open (getD p 0 0) (getD p 1 0) (eqb (getD p 0 0) 0) refl e (g .codes) in
-      sym (session-spelled p (g .long) (g .bytes) (eqb-true _ _ e) (kind-of (getD p 1 0) (eqb (getD p 1 0) 2) refl k))
+      let k : (eqb (getD p kindPlace 0) 1 || eqb (getD p kindPlace 0) 2) ≡ true =
+      codes-open (getD p statePlace 0) (getD p kindPlace 0) (eqb (getD p statePlace 0) 0) refl e (g .codes) in
+      sym (session-spelled p (g .long) (g .bytes) (eqb-true _ _ e) (kind-of (getD p kindPlace 0) (eqb (getD p kindPlace 0) 2) refl k))
   kept-by false e =
-      ap (λ (t : Bool). cond t p (slotBytes (slotBy false))) (codes-free (getD p 0 0) (getD p 1 0) (eqb (getD p 0 0) 0) refl e (g .codes))
+      ap (λ (t : Bool). cond t p (slotBytes (slotBy false))) (codes-free (getD p statePlace 0) (getD p kindPlace 0) (eqb (getD p statePlace 0) 0) refl e (g .codes))
 
   -- a slot that is put back as it was read keeps its piece
   pub kept-same : kept p (slotAt p) ≡ p
-  kept-same = kept-by (eqb (getD p 0 0) 1) refl
+  kept-same = kept-by (eqb (getD p statePlace 0) 1) refl
 
   kept-long : (s : Slot) → length (kept p s) ≡ slotLength
-  kept-long s = by (isFree s && eqb (getD p 0 0) 0)
+  kept-long s = by (isFree s && eqb (getD p statePlace 0) 0)
     where
       by : (t : Bool) → length (cond t p (slotBytes s)) ≡ slotLength
       by true = g .long
@@ -167,7 +170,7 @@ all-good : (n : ℕ) (b : List ℕ) → length b ≡ slotLength * n → Bytes b 
 unfolding pieces codesAll
 all-good zero b e h c = tt
 all-good (suc n) b e h c =
-    let (p, q) = guard-passed (codesOk (getD (take slotLength b) 0 0) (getD (take slotLength b) 1 0)) (codesAll (pieces n (drop slotLength b))) c in (
+    let (p, q) = guard-passed (codesOk (getD (take slotLength b) statePlace 0) (getD (take slotLength b) kindPlace 0)) (codesAll (pieces n (drop slotLength b))) c in (
       record { long = length-take-le slotLength b (omega arith); bytes = bytes-take slotLength b h; codes = p },
       all-good n (drop slotLength b) (length-drop slotLength b ∙ omega arith) (bytes-drop slotLength b h) q,
     )
@@ -218,7 +221,8 @@ module _ (b : List ℕ) (h : Bytes b) (r : isRecord b ≡ true) where
       ∙ take-append-drop headLength b
 
   -- another state of one slot changes its piece and no other byte
-  pub put-one : (i : ℕ) (st : State) → i < 8 → putIn b (withSlot (recordAt b) i st) ≡ paste b (slotPlace i) (kept (getD (piecesOf b) i []) (record { state = st })) slotLength
+  pub put-one : (i : ℕ) (st : State) → i < 8
+      → putIn b (withSlot (recordAt b) i st) ≡ paste b (slotPlace i) (kept (getD (piecesOf b) i []) (record { state = st })) slotLength
   unfolding putIn headBytes
   put-one i st low =
       let q : List ℕ = kept (getD (piecesOf b) i []) (record { state = st }) in
@@ -229,14 +233,20 @@ module _ (b : List ℕ) (h : Bytes b) (r : isRecord b ≡ true) where
       ∙ ap (λ (l : List ℕ). paste l (slotPlace i) q slotLength) (take-append-drop headLength b)
 
   -- other slots over their pieces, and another last reading in its four bytes
-  pub put-elapsed : (last : ℕ) (ss : List Slot) → paste (take headLength b ++ merged (piecesOf b) ss) lastPlace (low4 last []) 4 ≡ putIn b (record { own = recordAt b .own; limit = recordAt b .limit; last = last; slots = ss })
+  pub put-elapsed : (last : ℕ) (ss : List Slot)
+      → paste (take headLength b ++ merged (piecesOf b) ss) lastPlace (low4 last []) 4
+      ≡ putIn b (record { own = recordAt b .own; limit = recordAt b .limit; last = last; slots = ss })
   unfolding putIn headBytes
   put-elapsed last ss =
       let M : List ℕ = merged (piecesOf b) ss in
       let nine : length (take headLength b) ≡ headLength = length-take-le headLength b (omega (arith, record-long b r)) in
       ap (λ (l : List ℕ). l ++ low4 last [] ++ drop headLength (take headLength b ++ M))
-      (take-append-le lastPlace (take headLength b) M (omega arith) ∙ take-take lastPlace headLength b (omega arith) ∙ spelled lastPlace 0 b (omega (arith, record-long b r)) ∙ same-byte _ (four b limitPlace h refl))
-      ∙ ap (λ (l : List ℕ). headBytes (record { own = recordAt b .own; limit = recordAt b .limit; last = last; slots = ss }) ++ l) (drop-at (take headLength b) M headLength nine)
+      (take-append-le lastPlace (take headLength b) M (omega arith)
+      ∙ take-take lastPlace headLength b (omega arith)
+      ∙ spelled lastPlace 0 b (omega (arith, record-long b r))
+      ∙ same-byte _ (four b limitPlace h refl))
+      ∙ ap (λ (l : List ℕ). headBytes (record { own = recordAt b .own; limit = recordAt b .limit; last = last; slots = ss }) ++ l)
+      (drop-at (take headLength b) M headLength nine)
 
 -- ---- one slot
 

@@ -1,5 +1,5 @@
 -- The record as bytes of a fixed layout: own address, idle limit and last reading, then eight slots (01, "Life of a session").
--- Numbers of 32 bits stand with their low byte first.
+-- Numbers of 32 bits have their low byte first.
 use Prim.Native.Nat.{ℕ, zero, suc, _+_, _*_, _/_, _%_}
 use mathlib.Core.Bool.{Bool, true, false, cond, not, _&&_, _||_}
 use mathlib.Core.List.{List, [], _∷_, _++_, map}
@@ -14,7 +14,8 @@ use Rattle.slots.specs.declared.Slot.{Slot}
 use Rattle.session.specs.declared.State.{State}
 use Rattle.session.specs.declared.State.the-variants.{Closed, Open}
 use Rattle.receiver.specs.declared.Receiver.{Receiver}
-use Rattle.record_bytes.specs.Places.{recordLength, headLength, slotLength, limitPlace, lastPlace, announcedLength}
+use Rattle.record_bytes.specs.Places.{recordLength, headLength, slotLength, ownPlace, limitPlace, lastPlace}
+use Rattle.record_bytes.specs.Places.{statePlace, kindPlace, saPlace, daPlace, sessionPlace, totalPlace, segmentsPlace, maxPlace, pgnPlace, nextPlace, grantedPlace, markPlace}
 
 -- four bytes, low byte first
 abbrev pub low32 : List ℕ → ℕ → ℕ
@@ -34,43 +35,44 @@ kindByte Bam = 2
 abbrev pub kindAt : ℕ → Kind
 kindAt n = cond (eqb n 2) Bam Rts
 
+-- open: 1, kind, SA, DA, session number, Total Bytes, segments, MAX SGMTS, PGN
+abbrev pub announcedBytes : Announced → List ℕ
+announcedBytes a =
+    1
+    ∷ kindByte (a .kind)
+    ∷ a .key .sa .0
+    ∷ a .key .da .0
+    ∷ a .key .session .0
+    ∷ low4 (a .total .0) (low4 (a .segments .0) (a .max ∷ low4 (a .pgn) []))
+
 -- what each segment brings forward: next segment, last granted, mark
 abbrev pub progressBytes : Progress → List ℕ
 progressBytes p = low4 (p .next .0) (low4 (p .granted .0) (low4 (p .mark) []))
 
--- open: 1, kind, SA, DA, session number, Total Bytes, segments, MAX SGMTS, PGN, next segment, last granted, mark
 unfoldable pub sessionBytes : Session → List ℕ
-sessionBytes s =
-    1
-    ∷ kindByte (s .announced .kind)
-    ∷ s .announced .key .sa .0
-    ∷ s .announced .key .da .0
-    ∷ s .announced .key .session .0
-    ∷ low4 (s .announced .total .0)
-    (low4 (s .announced .segments .0)
-    (s .announced .max ∷ low4 (s .announced .pgn) (progressBytes (s .progress))))
+sessionBytes s = announcedBytes (s .announced) ++ progressBytes (s .progress)
 
 abbrev pub announcedAt : List ℕ → Announced
 announcedAt b =
     record {
       key = record {
-        sa = record { 0 = getD b 2 0 };
-        da = record { 0 = getD b 3 0 };
-        session = record { 0 = getD b 4 0 };
+        sa = record { 0 = getD b saPlace 0 };
+        da = record { 0 = getD b daPlace 0 };
+        session = record { 0 = getD b sessionPlace 0 };
       };
-      kind = kindAt (getD b 1 0);
-      total = record { 0 = low32 b 5 };
-      segments = record { 0 = low32 b 9 };
-      max = getD b 13 0;
-      pgn = low32 b 14;
+      kind = kindAt (getD b kindPlace 0);
+      total = record { 0 = low32 b totalPlace };
+      segments = record { 0 = low32 b segmentsPlace };
+      max = getD b maxPlace 0;
+      pgn = low32 b pgnPlace;
     }
 
 abbrev pub progressAt : List ℕ → Progress
 progressAt b =
     record {
-      next = record { 0 = low32 b announcedLength };
-      granted = record { 0 = low32 b 22 };
-      mark = low32 b 26;
+      next = record { 0 = low32 b nextPlace };
+      granted = record { 0 = low32 b grantedPlace };
+      mark = low32 b markPlace;
     }
 
 abbrev pub sessionAt : List ℕ → Session
@@ -89,7 +91,7 @@ abbrev pub codesOk : ℕ → ℕ → Bool
 codesOk state kind = eqb state 0 || (eqb state 1 && (eqb kind 1 || eqb kind 2))
 
 abbrev pub slotAt : List ℕ → Slot
-slotAt b = record { state = cond (eqb (getD b 0 0) 1) (Open (sessionAt b)) Closed }
+slotAt b = record { state = cond (eqb (getD b statePlace 0) 1) (Open (sessionAt b)) Closed }
 
 -- ---- the record: its head, and the slots
 
@@ -103,7 +105,7 @@ slotsBytes (s ∷ ss) = slotBytes s ++ slotsBytes ss
 abbrev pub recordBytes : Receiver → List ℕ
 recordBytes r = headBytes r ++ slotsBytes (r .slots)
 
--- slots put behind the head in a buffer
+-- slots put after the head in a buffer
 abbrev pub written : List Slot → List ℕ → List ℕ
 written ss d = take headLength d ++ slotsBytes ss
 
@@ -121,7 +123,7 @@ piecesOf b = pieces 8 (drop headLength b)
 
 unfoldable pub codesAll : List (List ℕ) → Bool
 codesAll [] = true
-codesAll (p ∷ ps) = cond (not (codesOk (getD p 0 0) (getD p 1 0))) false (codesAll ps)
+codesAll (p ∷ ps) = cond (not (codesOk (getD p statePlace 0) (getD p kindPlace 0))) false (codesAll ps)
 
 abbrev pub slotsAt : List ℕ → List Slot
 slotsAt b = map slotAt (piecesOf b)
@@ -132,4 +134,4 @@ isRecord b = cond (not (eqb (length b) recordLength)) false (codesAll (piecesOf 
 
 abbrev pub recordAt : List ℕ → Receiver
 recordAt b =
-    record { own = record { 0 = getD b 0 0 }; limit = low32 b limitPlace; last = low32 b lastPlace; slots = slotsAt b }
+    record { own = record { 0 = getD b ownPlace 0 }; limit = low32 b limitPlace; last = low32 b lastPlace; slots = slotsAt b }

@@ -1,12 +1,11 @@
 -- The slots' pieces of a record, by their places.
-use Prim.Native.Nat.{ℕ, zero, suc, _+_, _*_, _-_, _<_}
+use Prim.Native.Nat.{ℕ, zero, suc, _+_, _*_, _<_}
 use native.Mathlib.Omega.{arith}
 use mathlib.Core.Path.{_≡_, refl, ap, _∙_}
-use mathlib.Core.Bool.{Bool, true, false, cond, not}
+use mathlib.Core.Bool.{true}
 use lib.Dec.{eqb}
 use borrow.Author.Tests.{eqb-true}
 use Rattle.laws.specs.Bools.{guard-passed}
-use Rattle.laws.specs.Turn.{turn}
 use mathlib.Core.List.{List, [], _∷_, _++_, map}
 use lib.ListN.{length, getD, take, drop, length-append}
 use lib.Seq.{getD-take, getD-drop, drop-drop, take-at, drop-at}
@@ -14,7 +13,7 @@ use Rattle.slots.specs.declared.Slot.{Slot}
 use Rattle.session.specs.declared.State.{State}
 use Rattle.session.specs.declared.State.the-variants.{Closed, Open}
 use Rattle.record_bytes.specs.Places.{recordLength, headLength, slotLength, slotPlace}
-use Rattle.record_bytes.specs.Layout.{sessionBytes, stateBytes, slotBytes, slotsBytes, pieces, piecesOf, codesOk, codesAll, isRecord}
+use Rattle.record_bytes.specs.Layout.{sessionBytes, stateBytes, slotBytes, slotsBytes, pieces, piecesOf, codesAll, isRecord}
 
 pub length-pieces : (n : ℕ) (b : List ℕ) → length (pieces n b) ≡ n
 unfolding pieces
@@ -39,19 +38,6 @@ byte-of b i j h g =
     ap (λ (l : List ℕ). getD l j 0) (piece-of b i h)
     ∙ getD-take slotLength (drop (slotPlace i) b) j 0 g
     ∙ getD-drop (slotPlace i) b j 0
-
--- what is left to judge from slot i on
-pub codes-turn : (b : List ℕ) (i : ℕ) → i < 8
-    → codesAll (drop i (piecesOf b)) ≡ cond (not (codesOk (getD b (slotPlace i) 0) (getD b (slotPlace i + 1) 0))) false (codesAll (drop (i + 1) (piecesOf b)))
-unfolding codesAll
-codes-turn b i h =
-    let at : ℕ = slotPlace i in
-    let p : List ℕ = getD (piecesOf b) i [] in
-    let R : Bool = codesAll (drop (i + 1) (piecesOf b)) in
-    let e : at + 0 ≡ at = omega arith in
-    turn codesAll (piecesOf b) i [] (omega (arith, length-pieces 8 (drop headLength b)))
-    ∙ ap (λ (x : ℕ). cond (not (codesOk x (getD p 1 0))) false R) (byte-of b i 0 h (omega arith) ∙ ap (λ (k : ℕ). getD b k 0) e)
-    ∙ ap (λ (x : ℕ). cond (not (codesOk (getD b at 0) x)) false R) (byte-of b i 1 h (omega arith))
 
 pub record-long : (b : List ℕ) → isRecord b ≡ true → length b ≡ recordLength
 unfolding isRecord

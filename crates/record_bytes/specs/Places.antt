@@ -1,4 +1,4 @@
--- Where what stands in a record's bytes: the lengths and the places, named once.
+-- What is where in a record's bytes: the lengths and the places, named once.
 use Prim.Native.Nat.{ℕ, _+_, _*_}
 
 -- the record, its head, and a slot
@@ -11,16 +11,56 @@ headLength = 9
 abbrev pub slotLength : ℕ
 slotLength = 30
 
--- idle limit and last reading, in the head
+-- in the head: own address, idle limit, last reading
+abbrev pub ownPlace : ℕ
+ownPlace = 0
+
 abbrev pub limitPlace : ℕ
 limitPlace = 1
 
 abbrev pub lastPlace : ℕ
 lastPlace = 5
 
--- a session's progress, in its slot: the last bytes
+-- in a slot: the codes of its state and of its kind, then the rest of what was announced
+abbrev pub statePlace : ℕ
+statePlace = 0
+
+abbrev pub kindPlace : ℕ
+kindPlace = 1
+
+abbrev pub saPlace : ℕ
+saPlace = 2
+
+abbrev pub daPlace : ℕ
+daPlace = 3
+
+abbrev pub sessionPlace : ℕ
+sessionPlace = 4
+
+abbrev pub totalPlace : ℕ
+totalPlace = 5
+
+abbrev pub segmentsPlace : ℕ
+segmentsPlace = 9
+
+abbrev pub maxPlace : ℕ
+maxPlace = 13
+
+abbrev pub pgnPlace : ℕ
+pgnPlace = 14
+
+-- a session's progress: the last bytes of its slot
+abbrev pub nextPlace : ℕ
+nextPlace = 18
+
+abbrev pub grantedPlace : ℕ
+grantedPlace = 22
+
+abbrev pub markPlace : ℕ
+markPlace = 26
+
 abbrev pub announcedLength : ℕ
-announcedLength = 18
+announcedLength = nextPlace
 
 abbrev pub progressLength : ℕ
 progressLength = 12

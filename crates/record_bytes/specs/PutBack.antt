@@ -1,11 +1,11 @@
 -- What a call puts into the buffer is a record, and the next call reads it as it was.
-use Prim.Native.Nat.{ℕ, zero, suc, _+_, _*_}
+use Prim.Native.Nat.{ℕ, zero, suc, _*_}
 use native.Mathlib.Omega.{arith}
 use mathlib.Core.Path.{_≡_, refl, sym, ap, _∙_}
 use mathlib.Core.Bool.{Bool, true, false, cond, not, _&&_, false≢true}
 use mathlib.Core.List.{List, [], _∷_, _++_, map}
 use lib.Dec.{eqb}
-use lib.ListN.{length, getD, take, drop, length-append, length-drop}
+use lib.ListN.{length, getD, drop, length-append, length-drop}
 use lib.Seq.{take-at, drop-at, length-take-le}
 use borrow.Author.Tests.{eqb-true, eq-eqb}
 use Rattle.laws.specs.Choice.{else}
@@ -14,7 +14,7 @@ use Rattle.session.specs.declared.State.{State}
 use Rattle.session.specs.declared.State.the-variants.{Closed, Open}
 use Rattle.slots.specs.Slots.{freeState}
 use Rattle.receiver.specs.declared.Receiver.{Receiver}
-use Rattle.record_bytes.specs.Places.{recordLength, headLength, slotLength}
+use Rattle.record_bytes.specs.Places.{recordLength, headLength, slotLength, statePlace, kindPlace}
 use Rattle.record_bytes.specs.Layout.{sessionAt, stateBytes, slotBytes, slotAt, codesOk, headBytes, pieces, piecesOf, codesAll, isRecord, recordAt}
 use Rattle.record_bytes.specs.Pieces.{length-slot, length-pieces}
 use Rattle.record_bytes.specs.Keeping.{kept, merged, putIn}
@@ -26,18 +26,19 @@ free-read : (p : List ℕ) (n : ℕ) → n ≡ 0 → _≡_ {A = State} (cond (eq
 free-read p n e = ap (λ (k : ℕ). cond (eqb k 1) (Open (sessionAt p)) Closed) e
 
 -- t: the slot is free and its piece's state code is 0
-kept-by : (p : List ℕ) (st : State) (t : Bool) → t ≡ (freeState st && eqb (getD p 0 0) 0) → StateFits st → slotAt (cond t p (stateBytes st)) ≡ record { state = st }
+kept-by : (p : List ℕ) (st : State) (t : Bool) → t ≡ (freeState st && eqb (getD p statePlace 0) 0) → StateFits st
+    → slotAt (cond t p (stateBytes st)) ≡ record { state = st }
 kept-by p st false e f = state-back st f
 kept-by p Closed true e f =
-    ap (λ (x : State). record { state = x }) (free-read p (getD p 0 0) (eqb-true _ _ (sym e)))
+    ap (λ (x : State). record { state = x }) (free-read p (getD p statePlace 0) (eqb-true _ _ (sym e)))
 kept-by p (Open s) true e f = absurd (false≢true (sym e))
 
-code-by : (p : List ℕ) (st : State) (t : Bool) → t ≡ (freeState st && eqb (getD p 0 0) 0)
-    → codesOk (getD (cond t p (stateBytes st)) 0 0) (getD (cond t p (stateBytes st)) 1 0) ≡ true
+code-by : (p : List ℕ) (st : State) (t : Bool) → t ≡ (freeState st && eqb (getD p statePlace 0) 0)
+    → codesOk (getD (cond t p (stateBytes st)) statePlace 0) (getD (cond t p (stateBytes st)) kindPlace 0) ≡ true
 code-by p st false e = codes-state st
 code-by p Closed true e =
-    let z : getD p 0 0 ≡ 0 = eqb-true _ _ (sym e) in
-    ap (λ (n : ℕ). codesOk n (getD p 1 0)) z
+    let z : getD p statePlace 0 ≡ 0 = eqb-true _ _ (sym e) in
+    ap (λ (n : ℕ). codesOk n (getD p kindPlace 0)) z
 code-by p (Open s) true e = absurd (false≢true (sym e))
 
 long-by : (p : List ℕ) (s : Slot) (t : Bool) → length p ≡ slotLength → length (cond t p (slotBytes s)) ≡ slotLength
@@ -69,7 +70,7 @@ pieces-merged (p ∷ ps) [] g e = absurd (omega arith)
 pieces-merged (p ∷ ps) (s ∷ ss) (g, gs) e =
     let n : ℕ = length ss in
     let b : List ℕ = kept p s ++ merged ps ss in
-    let l : length (kept p s) ≡ slotLength = long-by p s (freeState (s .state) && eqb (getD p 0 0) 0) g in
+    let l : length (kept p s) ≡ slotLength = long-by p s (freeState (s .state) && eqb (getD p statePlace 0) 0) g in
     ap (λ (x : List ℕ). x ∷ pieces n (drop slotLength b)) (take-at (kept p s) (merged ps ss) slotLength l)
     ∙ ap (λ (x : List ℕ). kept p s ∷ pieces n x) (drop-at (kept p s) (merged ps ss) slotLength l)
     ∙ ap (λ (x : List (List ℕ)). kept p s ∷ x) (pieces-merged ps ss gs (omega arith))
@@ -96,7 +97,7 @@ length-merged [] [] g e = refl
 length-merged [] (s ∷ ss) g e = absurd (omega arith)
 length-merged (p ∷ ps) [] g e = absurd (omega arith)
 length-merged (p ∷ ps) (s ∷ ss) (g, gs) e =
-    let a : length (kept p s) ≡ slotLength = long-by p s (freeState (s .state) && eqb (getD p 0 0) 0) g in
+    let a : length (kept p s) ≡ slotLength = long-by p s (freeState (s .state) && eqb (getD p statePlace 0) 0) g in
     let b : length (merged ps ss) ≡ slotLength * length ss = length-merged ps ss gs (omega arith) in
     length-append (kept p s) (merged ps ss) ∙ omega arith
 

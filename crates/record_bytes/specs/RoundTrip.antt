@@ -1,15 +1,13 @@
 -- A record that is written is read back as it was.
-use Prim.Native.Nat.{ℕ, zero, suc, _+_, _*_, _/_, _%_, _<_}
+use Prim.Native.Nat.{ℕ, _+_, _*_, _/_, _%_, _<_}
 use native.Mathlib.Omega.{arith}
 use mathlib.Core.Path.{_≡_, refl, sym, ap, _∙_}
-use mathlib.Core.Bool.{Bool, true, false, cond, not, _&&_, _||_}
-use mathlib.Core.List.{List, [], _∷_, _++_, map}
+use mathlib.Core.Bool.{Bool, true, false, cond, not, _||_}
+use mathlib.Core.List.{List, [], _∷_, map}
 use lib.Dec.{eqb}
-use lib.ListN.{length, getD, take, drop, length-append}
-use lib.Seq.{drop-at}
+use lib.ListN.{length, getD, length-append}
 use borrow.Author.Tests.{eq-eqb}
 use Rattle.laws.specs.Choice.{else}
-use Rattle.frame.specs.declared.Address.{Address}
 use Rattle.transport.specs.declared.Kind.{Kind}
 use Rattle.transport.specs.declared.Kind.the-variants.{Rts, Bam}
 use Rattle.progress.specs.declared.Announced.{Announced}
@@ -19,8 +17,8 @@ use Rattle.slots.specs.declared.Slot.{Slot}
 use Rattle.session.specs.declared.State.{State}
 use Rattle.session.specs.declared.State.the-variants.{Closed, Open}
 use Rattle.receiver.specs.declared.Receiver.{Receiver}
-use Rattle.record_bytes.specs.Places.{recordLength, headLength, slotLength}
-use Rattle.record_bytes.specs.Layout.{low4, low32, kindByte, kindAt, announcedAt, progressAt, sessionBytes, sessionAt, stateBytes, slotBytes, codesOk, slotAt, headBytes, slotsBytes, recordBytes, pieces, piecesOf, codesAll, slotsAt, isRecord, recordAt}
+use Rattle.record_bytes.specs.Places.{recordLength, headLength, slotLength, statePlace, kindPlace}
+use Rattle.record_bytes.specs.Layout.{low4, low32, kindByte, kindAt, announcedAt, progressAt, sessionBytes, sessionAt, stateBytes, slotBytes, codesOk, slotAt, headBytes, slotsBytes, recordBytes, pieces, piecesOf, codesAll, isRecord, recordAt}
 use Rattle.record_bytes.specs.Pieces.{length-slots, pieces-slots}
 
 -- Four bytes hold a number below 2^32.
@@ -112,7 +110,7 @@ kind-code : (k : Kind) → (eqb (kindByte k) 1 || eqb (kindByte k) 2) ≡ true
 kind-code Rts = refl
 kind-code Bam = refl
 
-pub codes-state : (st : State) → codesOk (getD (stateBytes st) 0 0) (getD (stateBytes st) 1 0) ≡ true
+pub codes-state : (st : State) → codesOk (getD (stateBytes st) statePlace 0) (getD (stateBytes st) kindPlace 0) ≡ true
 unfolding sessionBytes
 codes-state Closed = refl
 codes-state (Open s) = kind-code (s .announced .kind)

@@ -1,57 +1,94 @@
-// Parts of a record put over the bytes of the one before it: what did not change is not written.
+// A record's fields put into a lent buffer, each at its place: what did not change is not written.
 ghost use mathlib.Core.Path.{_≡_};
 ghost use mathlib.Core.List.{[]};
-ghost use Prim.Native.Nat.{_<_};
+ghost use Prim.Native.Nat.{_+_, _<_, _≤_};
 ghost use lib.ListN.{length};
 ghost use lib.Seq.{paste};
-ghost use Rattle.record_bytes.specs.Layout.{low4, progressBytes, slotBytes};
-ghost use Rattle.record_bytes.specs.Places.{recordLength, slotLength, slotPlace, progressLength, progressPlace, lastPlace};
-use super::places::HEAD_BYTES;
+ghost use Rattle.record_bytes.specs.Layout.{low4, announcedBytes, progressBytes, slotBytes, headBytes};
+ghost use Rattle.record_bytes.specs.Places.{recordLength, headLength, slotLength, slotPlace, announcedLength, progressLength, progressPlace, lastPlace};
+use super::places::GRANTED_AT;
 use super::places::LAST_AT;
-use super::places::PROGRESS_AT;
-use super::places::PROGRESS_BYTES;
+use super::places::LIMIT_AT;
+use super::places::MARK_AT;
+use super::places::MAX_AT;
+use super::places::NEXT_AT;
+use super::places::OWN_AT;
+use super::places::PGN_AT;
+use super::places::SEGMENTS_AT;
 use super::places::SLOT_BYTES;
-use super::slot::progress_bytes;
-use super::slot::slot_bytes;
-use frame::octet::low_byte;
+use super::places::TOTAL_AT;
+use super::places::slot_place;
+use super::slot::kind_byte;
+use super::word::put_word;
 use octets::copy;
+use progress::Announced;
 use progress::Progress;
+use receiver::Receiver;
+use session::State;
 use slots::Slot;
 
-// Writes slot i.
-pub fn put_slot(out: &mut [u8], i: usize, s: Slot)
-    requires { ⌜ (i < 8) × (length (now out) ≡ recordLength) ⌝ }
-    ensures { λ _. ⌜ now (out .exit) ≡ paste (now (out .entry)) (slotPlace i) (slotBytes s) slotLength ⌝ }
+// Writes what was announced, as an open slot begins; it begins at at.
+fn put_announced(out: &mut [u8], at: usize, a: Announced)
+    requires { ⌜ at + announcedLength ≤ length (now out) ⌝ }
+    ensures { λ _. ⌜ now (out .exit) ≡ paste (now (out .entry)) at (announcedBytes a) announcedLength ⌝ }
 {
-    let piece = slot_bytes(s);
-    copy(out, HEAD_BYTES + SLOT_BYTES * i, &piece, 0, SLOT_BYTES);
+    let kind = a.kind;
+    let front = [1, kind_byte(kind), a.key.sa.0, a.key.da.0, a.key.session.0];
+    let max = [a.max];
+    copy(out, at, &front, 0, TOTAL_AT);
+    put_word(out, at + TOTAL_AT, a.total.0);
+    put_word(out, at + SEGMENTS_AT, a.segments.0);
+    copy(out, at + MAX_AT, &max, 0, 1);
+    put_word(out, at + PGN_AT, a.pgn);
 }
 
-// Writes how far the session of slot i has come, behind the bytes that stay as they were announced.
+// Writes how far the session of slot i has come, after the bytes that stay as they were announced.
 pub fn put_progress(out: &mut [u8], i: usize, p: Progress)
     requires { ⌜ (i < 8) × (length (now out) ≡ recordLength) ⌝ }
     ensures { λ _. ⌜ now (out .exit) ≡ paste (now (out .entry)) (progressPlace i) (progressBytes p) progressLength ⌝ }
 {
-    let piece = progress_bytes(p);
-    copy(
-        out,
-        HEAD_BYTES + PROGRESS_AT + SLOT_BYTES * i,
-        &piece,
-        0,
-        PROGRESS_BYTES,
-    );
+    let at = slot_place(i);
+    put_word(out, at + NEXT_AT, p.next.0);
+    put_word(out, at + GRANTED_AT, p.granted.0);
+    put_word(out, at + MARK_AT, p.mark);
 }
 
-// Writes the last reading, behind own address and idle limit.
+// Writes slot i; a free one is all zeros.
+pub fn put_slot(out: &mut [u8], i: usize, s: Slot)
+    requires { ⌜ (i < 8) × (length (now out) ≡ recordLength) ⌝ }
+    ensures { λ _. ⌜ now (out .exit) ≡ paste (now (out .entry)) (slotPlace i) (slotBytes s) slotLength ⌝ }
+{
+    let at = slot_place(i);
+    let state = s.state;
+    match state {
+        State::Closed => {
+            let zeros = [0u8; SLOT_BYTES];
+            copy(out, at, &zeros, 0, SLOT_BYTES);
+        }
+        State::Open(o) => {
+            let a = o.announced;
+            let p = o.progress;
+            put_announced(out, at, a);
+            put_progress(out, i, p);
+        }
+    }
+}
+
+// Writes the last reading, after own address and idle limit.
 pub fn put_last(out: &mut [u8], reading: u32)
     requires { ⌜ length (now out) ≡ recordLength ⌝ }
     ensures { λ _. ⌜ now (out .exit) ≡ paste (now (out .entry)) lastPlace (low4 reading []) 4 ⌝ }
 {
-    let piece = [
-        low_byte(reading),
-        low_byte(reading / 256),
-        low_byte(reading / 65536),
-        low_byte(reading / 16777216),
-    ];
-    copy(out, LAST_AT, &piece, 0, 4);
+    put_word(out, LAST_AT, reading);
+}
+
+// Writes the head: own address, idle limit, last reading.
+pub fn put_head(out: &mut [u8], r: Receiver)
+    requires { ⌜ length (now out) ≡ recordLength ⌝ }
+    ensures { λ _. ⌜ now (out .exit) ≡ paste (now (out .entry)) 0 (headBytes r) headLength ⌝ }
+{
+    let own = [r.own.0];
+    copy(out, OWN_AT, &own, 0, 1);
+    put_word(out, LIMIT_AT, r.limit);
+    put_last(out, r.last);
 }

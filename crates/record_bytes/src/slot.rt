@@ -1,17 +1,25 @@
-// A slot as bytes of a fixed layout, and back.
+// A slot read off its bytes, and the codes of its state and kind.
 ghost use mathlib.Core.Path.{_≡_};
 ghost use lib.ListN.{length};
-ghost use Rattle.record_bytes.specs.Layout.{codesOk, kindByte, kindAt, progressBytes, sessionBytes, sessionAt, slotBytes, slotAt};
+ghost use Rattle.record_bytes.specs.Layout.{codesOk, kindByte, kindAt, sessionAt, slotAt};
 ghost use Rattle.record_bytes.specs.Places.{slotLength};
-use super::places::PROGRESS_AT;
-use super::places::PROGRESS_BYTES;
-use super::places::SLOT_BYTES;
+use super::places::DA_AT;
+use super::places::GRANTED_AT;
+use super::places::KIND_AT;
+use super::places::MARK_AT;
+use super::places::MAX_AT;
+use super::places::NEXT_AT;
+use super::places::PGN_AT;
+use super::places::SA_AT;
+use super::places::SEGMENTS_AT;
+use super::places::SESSION_AT;
+use super::places::STATE_AT;
+use super::places::TOTAL_AT;
 use super::word::word_at;
 use frame::Address;
 use frame::ByteCount;
 use frame::SegmentNumber;
 use frame::SessionNumber;
-use frame::octet::low_byte;
 use progress::Announced;
 use progress::Progress;
 use session::Session;
@@ -45,100 +53,29 @@ fn kind_at(byte: u8) -> Kind
     Kind::Rts
 }
 
-fn session_bytes(s: Session) -> [u8; SLOT_BYTES]
-    ensures { λ r. ⌜ r ≡ sessionBytes s ⌝ }
-{
-    let a = s.announced;
-    let p = s.progress;
-    let kind = a.kind;
-    [
-        1,
-        kind_byte(kind),
-        a.key.sa.0,
-        a.key.da.0,
-        a.key.session.0,
-        low_byte(a.total.0),
-        low_byte(a.total.0 / 256),
-        low_byte(a.total.0 / 65536),
-        low_byte(a.total.0 / 16777216),
-        low_byte(a.segments.0),
-        low_byte(a.segments.0 / 256),
-        low_byte(a.segments.0 / 65536),
-        low_byte(a.segments.0 / 16777216),
-        a.max,
-        low_byte(a.pgn),
-        low_byte(a.pgn / 256),
-        low_byte(a.pgn / 65536),
-        low_byte(a.pgn / 16777216),
-        low_byte(p.next.0),
-        low_byte(p.next.0 / 256),
-        low_byte(p.next.0 / 65536),
-        low_byte(p.next.0 / 16777216),
-        low_byte(p.granted.0),
-        low_byte(p.granted.0 / 256),
-        low_byte(p.granted.0 / 65536),
-        low_byte(p.granted.0 / 16777216),
-        low_byte(p.mark),
-        low_byte(p.mark / 256),
-        low_byte(p.mark / 65536),
-        low_byte(p.mark / 16777216),
-    ]
-}
-
-// How far a session has come, as its last bytes say.
-pub fn progress_bytes(p: Progress) -> [u8; PROGRESS_BYTES]
-    ensures { λ r. ⌜ r ≡ progressBytes p ⌝ }
-{
-    [
-        low_byte(p.next.0),
-        low_byte(p.next.0 / 256),
-        low_byte(p.next.0 / 65536),
-        low_byte(p.next.0 / 16777216),
-        low_byte(p.granted.0),
-        low_byte(p.granted.0 / 256),
-        low_byte(p.granted.0 / 65536),
-        low_byte(p.granted.0 / 16777216),
-        low_byte(p.mark),
-        low_byte(p.mark / 256),
-        low_byte(p.mark / 65536),
-        low_byte(p.mark / 16777216),
-    ]
-}
-
-// The bytes of a slot; a free one is all zeros.
-pub fn slot_bytes(s: Slot) -> [u8; SLOT_BYTES]
-    ensures { λ r. ⌜ r ≡ slotBytes s ⌝ }
-{
-    let state = s.state;
-    match state {
-        State::Closed => [0; SLOT_BYTES],
-        State::Open(o) => session_bytes(o),
-    }
-}
-
-// The session that an open slot's piece says.
+// The session that the piece of an open slot says.
 pub fn session_at(piece: &[u8]) -> Session
     requires { ⌜ length (now piece) ≡ slotLength ⌝ }
     ensures { λ r. ⌜ r ≡ sessionAt (now (piece .entry)) ⌝ }
 {
-    let kind = kind_at(piece[1]);
+    let kind = kind_at(piece[KIND_AT]);
     Session {
         announced: Announced {
             key: Key {
-                sa: Address(piece[2]),
-                da: Address(piece[3]),
-                session: SessionNumber(piece[4]),
+                sa: Address(piece[SA_AT]),
+                da: Address(piece[DA_AT]),
+                session: SessionNumber(piece[SESSION_AT]),
             },
             kind: kind,
-            total: ByteCount(word_at(piece, 5)),
-            segments: SegmentNumber(word_at(piece, 9)),
-            max: piece[13],
-            pgn: word_at(piece, 14),
+            total: ByteCount(word_at(piece, TOTAL_AT)),
+            segments: SegmentNumber(word_at(piece, SEGMENTS_AT)),
+            max: piece[MAX_AT],
+            pgn: word_at(piece, PGN_AT),
         },
         progress: Progress {
-            next: SegmentNumber(word_at(piece, PROGRESS_AT)),
-            granted: SegmentNumber(word_at(piece, 22)),
-            mark: word_at(piece, 26),
+            next: SegmentNumber(word_at(piece, NEXT_AT)),
+            granted: SegmentNumber(word_at(piece, GRANTED_AT)),
+            mark: word_at(piece, MARK_AT),
         },
     }
 }
@@ -148,7 +85,7 @@ pub fn slot_at(piece: &[u8]) -> Slot
     requires { ⌜ length (now piece) ≡ slotLength ⌝ }
     ensures { λ r. ⌜ r ≡ slotAt (now (piece .entry)) ⌝ }
 {
-    if piece[0] == 1 {
+    if piece[STATE_AT] == 1 {
         return Slot {
             state: State::Open(session_at(piece)),
         };

@@ -1,24 +1,7 @@
 // The window: the part of the input that is in memory.
-
-// The first n bytes of s; all of it where it has fewer.
-pub fn first(s: &[u8], n: usize) -> &[u8] {
-    if n <= s.len() { &s[0..n] } else { s }
-}
-
-// Moves the bytes from `from` to `to` to the start of the window, and answers how many they are.
-pub fn shift(window: &mut [u8], from: usize, to: usize) -> usize {
-    let mut i = from;
-    let mut j: usize = 0;
-    while i < to {
-        if window.len() <= i {
-            return j;
-        }
-        window[j] = window[i];
-        i = i + 1;
-        j = j + 1;
-    }
-    j
-}
+ghost use mathlib.Core.Path.{_≡_};
+ghost use lib.ListN.{take};
+ghost use Rattle.replay.specs.Moves.{Behind};
 
 // What a read gave.
 pub enum Got {
@@ -29,8 +12,10 @@ pub enum Got {
     Failed,
 }
 
-// Reads more bytes behind the first kept ones.
-pub fn fill(window: &mut [u8], kept: usize) -> Got {
+// Reads more bytes after the first kept ones, which stay as they are.
+pub fn fill(window: &mut [u8], kept: usize) -> Got
+    ensures { λ r. ⌜ (take kept (now (window .exit)) ≡ take kept (now (window .entry))) × Behind kept r ⌝ }
+{
     if window.len() <= kept {
         return Got::Failed;
     }

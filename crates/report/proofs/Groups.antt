@@ -29,7 +29,7 @@ module _ (d : List ℕ) where
       let there : to′ ≡ to = cc in
       (hs, ap (λ (x : Group). x ∷ hs) same, subst (λ (c : Cursor). Yields d (c .at) hs) there y)
 
-  -- the reader of the rest stands behind the group
+  -- the reader of the rest has come to the place after the group
   rest-place : (at : ℕ) (g : Group) (to : Cursor) → nextAt d at ≡ next.Given g to → (p : ℕ) → p ≡ restAt d at → p ≡ to .at
   rest-place at g to q p e = e ∙ ap (behind at) q
 

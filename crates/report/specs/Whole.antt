@@ -5,7 +5,7 @@ use mathlib.Core.List.{List, [], _∷_}
 use lib.ListN.{replicate}
 use Rattle.frame.specs.declared.refusal.Refusal.the-variants.{OutOfSequence, Silence, OutOfBounds, AnnouncementForm, FrameLength}
 use Rattle.frame.specs.declared.judge.Route.{Route}
-use Rattle.multi_pg.specs.Groups.{reading, readFrom}
+use Rattle.multi_pg.specs.Groups.{groupsRead, readFrom}
 use Rattle.transport.specs.declared.Key.{Key}
 use Rattle.transport.specs.declared.Kind.{Kind}
 use Rattle.transport.specs.declared.Kind.the-variants.{Rts, Bam}
@@ -48,7 +48,7 @@ pub record WholeCase : Type 0 where
   pub last : endLine 4 ≡ ascii "end 4\n"
 
 pub whole-case : WholeCase
-unfolding answerLines groupLines endsLines lineOf numbers spaced decimal digitsOf widthOf widthFrom reading readFrom
+unfolding answerLines groupLines endsLines lineOf numbers spaced decimal digitsOf widthOf widthFrom groupsRead readFrom
 whole-case = record { a = refl; b = refl; c = refl; d = refl; last = refl }
 
 pub record OtherLines : Type 0 where

@@ -6,6 +6,7 @@ use mathlib.Core.Bool.{Bool, true, cond, not, _&&_, _||_}
 use lib.Dec.{eqb, leb}
 use Rattle.frame.specs.declared.Address.{Address}
 use Rattle.frame.specs.Pgn.{pgnOk}
+use Rattle.transport.specs.declared.Key.{Key}
 use Rattle.transport.specs.declared.Kind.{Kind}
 use Rattle.transport.specs.Kinds.{isRts}
 use Rattle.progress.specs.declared.Announced.{Announced}
@@ -15,30 +16,31 @@ use Rattle.session.specs.declared.State.{State}
 use Rattle.session.specs.declared.State.the-variants.{Closed, Open}
 
 -- Total Bytes, segment count and PGN as an announcement allows, MAX SGMTS at least 1 for RTS
-abbrev pub announcedOk : Announced → Bool
-announcedOk a =
-    leb 1 (a .total .0)
-    && leb (a .total .0) 4096
-    && eqb (a .segments .0) ((a .total .0 + 59) / 60)
-    && pgnOk (a .pgn)
-    && (not (isRts (a .kind)) || leb 1 (a .max))
+abbrev pub countsOk : ℕ → ℕ → ℕ → Bool → ℕ → Bool
+countsOk total segments pgn rts max =
+    leb 1 total && leb total 4096 && eqb segments ((total + 59) / 60) && pgnOk pgn && (not rts || leb 1 max)
 
--- SA and DA as they are taken here, with the DA of the kind, and a session number to 15
+abbrev pub announcedOk : Announced → Bool
+announcedOk a = countsOk (a .total .0) (a .segments .0) (a .pgn) (isRts (a .kind)) (a .max)
+
+-- SA and DA as they are taken here, and a session number to 15
+abbrev pub takenHere : Key → ℕ → Address → Bool
+takenHere k da own =
+    leb (k .sa .0) 253 && not (eqb (k .sa .0) (own .0)) && eqb (k .da .0) da && leb (k .session .0) 15
+
+-- with the DA of the kind
 abbrev pub keyOk : Address → Announced → Bool
-keyOk own a =
-    leb (a .key .sa .0) 253
-    && not (eqb (a .key .sa .0) (own .0))
-    && eqb (a .key .da .0) (cond (isRts (a .kind)) (own .0) 255)
-    && leb (a .key .session .0) 15
+keyOk own a = takenHere (a .key) (cond (isRts (a .kind)) (own .0) 255) own
 
 -- next segment from 1 to segments + 1; for RTS the last granted from the next segment to the count, or the count when all are in
+abbrev pub reachOk : ℕ → ℕ → ℕ → Bool → Bool
+reachOk next granted segments rts =
+    leb 1 next
+    && leb next (segments + 1)
+    && (not rts || (leb next granted && leb granted segments) || (eqb next (segments + 1) && eqb granted segments))
+
 abbrev pub progressOk : Announced → Progress → Bool
-progressOk a p =
-    leb 1 (p .next .0)
-    && leb (p .next .0) (a .segments .0 + 1)
-    && (not (isRts (a .kind))
-    || (leb (p .next .0) (p .granted .0) && leb (p .granted .0) (a .segments .0))
-    || (eqb (p .next .0) (a .segments .0 + 1) && eqb (p .granted .0) (a .segments .0)))
+progressOk a p = reachOk (p .next .0) (p .granted .0) (a .segments .0) (isRts (a .kind))
 
 abbrev pub sessionOk : Address → Session → Bool
 sessionOk own s = announcedOk (s .announced) && keyOk own (s .announced) && progressOk (s .announced) (s .progress)

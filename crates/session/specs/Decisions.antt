@@ -118,7 +118,7 @@ segmentTo x sg last =
     cond (not (eqb (sg .format) 0)) (refused FormatIndicator)
     (ifOpen x (λ s. segmentOpen s (sg .number .0) (sg .room) last))
 
--- ---- the end; the data of a session stands in a slot
+-- ---- the end; the data of a session is in a slot
 
 abbrev pub messageOf : ℕ → Session → Message
 messageOf slot s =

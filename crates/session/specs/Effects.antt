@@ -80,7 +80,9 @@ unfolding announcedTo formOf
 announce-effect x room k a last = go (misdirected (k .da) (a .kind)) (badNumbers a) (ltb 4096 (a .total .0)) (not (eqb (a .assurance) 0)) (not (pgnOk (a .pgn)))
   where
     go : (t b c d e : Bool)
-        → Effect x (cond t (stays (answer.Refused AnnouncementForm)) (onForm (cond b (form.Bad AnnouncementForm) (cond c (form.Bad TooLong) (cond d (form.Bad Assurance) (cond e (form.Bad PgnForm) form.Good)))) x room k a last))
+        → Effect x (cond t (stays (answer.Refused AnnouncementForm))
+        (onForm (cond b (form.Bad AnnouncementForm)
+        (cond c (form.Bad TooLong) (cond d (form.Bad Assurance) (cond e (form.Bad PgnForm) form.Good)))) x room k a last))
     go true b c d e = refuses x (answer.Refused AnnouncementForm) refl
     go false true c d e = rejects x k a AnnouncementForm refl
     go false false true d e = rejects x k a TooLong refl

@@ -4,10 +4,12 @@ use mathlib.Core.Path.{_≡_, refl, sym, _∙_}
 use mathlib.Core.Logic.{_⊎_, inl, inr}
 use mathlib.Core.Bool.{Bool, true, false, cond, not, _&&_, _||_, or-assoc, false≢true}
 use mathlib.Core.List.{List, [], _∷_}
+use mathlib.Mathlib.Data.Bool.Basic.{or-inr}
 use native.Mathlib.Omega.{arith}
 use lib.Dec.{eqb, leb, ltb}
 use borrow.Author.Tests.{ltb-true, ltb-false, leb-true, eqb-true, eqb-false, le-leb, eq-eqb, not-false}
 use Rattle.laws.specs.Choice.{or-stop, each-of, all-of}
+use Rattle.laws.specs.Bools.{passed, or-either, neither-left, neither-right, not-both, implied, implies}
 use Rattle.frame.specs.Pgn.{pgnOk}
 use Rattle.frame.specs.declared.refusal.Refusal.{Refusal}
 use Rattle.frame.specs.declared.refusal.Refusal.the-variants.{PgnForm, AnnouncementForm, TooLong, Assurance, AlreadyTaken, OutOfSequence, SegmentCut}
@@ -27,46 +29,7 @@ use Rattle.session.specs.Announcements.{badNumbers, formOf, announcedBy,
 use Rattle.session.specs.Segments.{dueOf, judgedOf}
 use Rattle.session.specs.Bounds.{announcedOk, progressOk, Agreed, AgreedIn, Ahead, Reached}
 
--- ---- tests
-
--- a test that was passed, where its answer is not the one given
-pub passed : {A : Type 0} (t : Bool) (x y z : A) → (x ≡ z → ⊥) → cond t x y ≡ z → (t ≡ false) × (y ≡ z)
-passed true x y z n e = absurd (n e)
-passed false x y z n e = (refl, e)
-
-or-false-left : (a b : Bool) → (a || b) ≡ false → a ≡ false
-or-false-left true b e = e
-or-false-left false b e = refl
-
-or-false-right : (a b : Bool) → (a || b) ≡ false → b ≡ false
-or-false-right true b e = cc
-or-false-right false b e = e
-
-not-both : (a b : Bool) → (a && b) ≡ false → a ≡ true → b ≡ false
-not-both true b e h = e
-not-both false b e h = cc
-
-implied : (a b : Bool) → (not a || b) ≡ true → a ≡ true → b ≡ true
-implied true b e h = e
-implied false b e h = cc
-
-implies : (a b : Bool) → (a ≡ true → b ≡ true) → (not a || b) ≡ true
-implies true b f = f refl
-implies false b f = refl
-
-one-of : (a b : Bool) → (a || b) ≡ true → (a ≡ true) ⊎ (b ≡ true)
-one-of true b e = inl refl
-one-of false b e = inr e
-
-or-right-true : (a b : Bool) → b ≡ true → (a || b) ≡ true
-or-right-true true b e = refl
-or-right-true false b e = e
-
 -- ---- grants
-
-pub grant-most : (max left : ℕ) → grantOf max left ≤ 16
-unfolding grantOf
-grant-most max left = omega arith
 
 pub grant-left : (max left : ℕ) → grantOf max left ≤ left
 unfolding grantOf
@@ -113,16 +76,16 @@ form-agreed a e =
     let none : Bool = eqb (a .total .0) 0 in
     let right : Bool = eqb (a .segments .0) ((a .total .0 + 59) / 60) in
     let mute : Bool = isRts (a .kind) && eqb (a .max) 0 in
-    let q = or-false-left (none || not right) mute (p₁ .0) in
-    let some : a .total .0 ≡ 0 → ⊥ = eqb-false _ _ (or-false-left none (not right) q) in (
+    let q = neither-left (none || not right) mute (p₁ .0) in
+    let some : a .total .0 ≡ 0 → ⊥ = eqb-false _ _ (neither-left none (not right) q) in (
       record {
         some = omega arith;
         fits = ltb-false _ _ (p₂ .0);
-        count = eqb-true _ _ (not-false right (or-false-right none (not right) q));
+        count = eqb-true _ _ (not-false right (neither-right none (not right) q));
         form = not-false _ (p₄ .0);
         grants =
             λ r.
-            let m : a .max ≡ 0 → ⊥ = eqb-false _ _ (not-both _ _ (or-false-right (none || not right) mute (p₁ .0)) r) in
+            let m : a .max ≡ 0 → ⊥ = eqb-false _ _ (not-both _ _ (neither-right (none || not right) mute (p₁ .0)) r) in
             omega arith;
       },
       eqb-true _ _ (not-false _ (p₃ .0)),
@@ -183,7 +146,7 @@ module _ (a : Announced) (p : Progress) where
       record {
         low = leb-true _ _ (t .0);
         high = leb-true _ _ (t .1 .0);
-        ahead = λ r. by (one-of waits over (implied rts (waits || over) (sym (or-assoc (not rts) waits over) ∙ t .1 .1 .0) r));
+        ahead = λ r. by (or-either waits over (implied rts (waits || over) (sym (or-assoc (not rts) waits over) ∙ t .1 .1 .0) r));
       }
     where
       by : (waits ≡ true) ⊎ (over ≡ true) → Ahead (p .next .0) (p .granted .0) (a .segments .0)
@@ -205,7 +168,7 @@ module _ (a : Announced) (p : Progress) where
       by (inl w) =
           sym (or-stop waits over (all-of (leb (p .next .0) (p .granted .0) ∷ leb (p .granted .0) (a .segments .0) ∷ []) (le-leb _ _ (w .0), (le-leb _ _ (w .1), tt))))
       by (inr w) =
-          or-right-true waits over (all-of (eqb (p .next .0) (a .segments .0 + 1) ∷ eqb (p .granted .0) (a .segments .0) ∷ []) (eq-eqb _ _ (w .0), (eq-eqb _ _ (w .1), tt)))
+          or-inr waits over (all-of (eqb (p .next .0) (a .segments .0 + 1) ∷ eqb (p .granted .0) (a .segments .0) ∷ []) (eq-eqb _ _ (w .0), (eq-eqb _ _ (w .1), tt)))
 
 -- ---- a session is in bounds when it opens
 
@@ -244,13 +207,13 @@ takes-in-turn s n room e =
     let p₁ = passed (eqb n 0 || ltb n next) _ _ _ (refused≢takes _) e in
     let p₂ = passed (ltb next n || ltb (s .announced .segments .0) n) _ _ _ (ends≢takes _) (p₁ .1) in
     let p₃ = passed (ltb room (dueOf (s .announced .total .0) n)) _ _ _ (refused≢takes _) (p₂ .1) in
-    let not-zero : n ≡ 0 → ⊥ = eqb-false _ _ (or-false-left _ _ (p₁ .0)) in
-    let not-below : s .progress .next .0 ≤ n = ltb-false _ _ (or-false-right (eqb n 0) _ (p₁ .0)) in
-    let not-above : n ≤ s .progress .next .0 = ltb-false _ _ (or-false-left _ _ (p₂ .0)) in
+    let not-zero : n ≡ 0 → ⊥ = eqb-false _ _ (neither-left _ _ (p₁ .0)) in
+    let not-below : s .progress .next .0 ≤ n = ltb-false _ _ (neither-right (eqb n 0) _ (p₁ .0)) in
+    let not-above : n ≤ s .progress .next .0 = ltb-false _ _ (neither-left _ _ (p₂ .0)) in
     record {
       next = omega arith;
       low = omega arith;
-      high = ltb-false _ _ (or-false-right (ltb next n) _ (p₂ .0));
+      high = ltb-false _ _ (neither-right (ltb next n) _ (p₂ .0));
       enough = ltb-false _ _ (p₃ .0);
     }
 
@@ -263,7 +226,8 @@ advanced-reached s n room last a p e =
     record { low = omega arith; high = omega arith; ahead = λ r. by (isRts (s .announced .kind)) r t (p .ahead r) (a .grants r) }
   where
     by : (rts : Bool) → rts ≡ true → InTurn s n room → Ahead (s .progress .next .0) (s .progress .granted .0) (s .announced .segments .0) → 1 ≤ s .announced .max
-        → Ahead (n + 1) (cond (rts && eqb n (s .progress .granted .0) && ltb n (s .announced .segments .0)) (n + grantOf (s .announced .max) (s .announced .segments .0 - n)) (s .progress .granted .0)) (s .announced .segments .0)
+        → Ahead (n + 1) (cond (rts && eqb n (s .progress .granted .0) && ltb n (s .announced .segments .0))
+        (n + grantOf (s .announced .max) (s .announced .segments .0 - n)) (s .progress .granted .0)) (s .announced .segments .0)
     by true r t (inl w) m = grant-next n (s .progress .granted .0) (s .announced .segments .0) (s .announced .max) m (t .high) (omega arith) (w .1)
     by true r t (inr w) m = absurd (omega arith)
     by false r t w m = absurd (false≢true r)
@@ -279,19 +243,6 @@ segment-inside total n l u = omega arith
 pub segment-apart : (total i n : ℕ) → 1 ≤ i → i < n → 60 * (i - 1) + dueOf total i ≤ 60 * (n - 1)
 unfolding dueOf
 segment-apart total i n l u = omega arith
-
--- right after the one before it, and all of them make the message
-pub segment-joins : (total n : ℕ) → 1 ≤ n → n < (total + 59) / 60 → 60 * (n - 1) + dueOf total n ≡ 60 * n
-unfolding dueOf
-segment-joins total n l u = omega arith
-
-pub segment-last : (total : ℕ) → 1 ≤ total → 60 * ((total + 59) / 60 - 1) + dueOf total ((total + 59) / 60) ≡ total
-unfolding dueOf
-segment-last total l = omega arith
-
-pub due-most : (total n : ℕ) → dueOf total n ≤ 60
-unfolding dueOf
-due-most total n = omega arith
 
 -- the data of a segment that is taken lies in the message, and so in a slot
 pub taken-inside : (s : Session) (n room : ℕ) → AgreedIn (s .announced) → judgedOf s n room ≡ Takes → 60 * (n - 1) + dueOf (s .announced .total .0) n ≤ s .announced .total .0

@@ -28,7 +28,7 @@ pub enum Form {
     Bad(Refusal),
 }
 
-// Whether an announcement goes to a destination that its kind has not: 11, and nothing is sent.
+// Whether an announcement goes to a destination that its kind does not go to: 11, and nothing is sent.
 fn is_misdirected(da: Address, kind: Kind) -> bool
     ensures { λ r. ⌜ r ≡ misdirected da kind ⌝ }
 {

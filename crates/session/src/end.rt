@@ -48,7 +48,7 @@ fn status_matches(s: Session, st: Status) -> bool
         & (st.pgn == s.announced.pgn)
 }
 
-// The message of a session, whose bytes stand in the slot.
+// The message of a session, whose bytes are in the slot.
 fn message_of(s: Session, slot: usize) -> Message
     ensures { λ r. ⌜ r ≡ messageOf slot s ⌝ }
 {
@@ -81,7 +81,7 @@ fn status_open(s: Session, slot: usize, st: Status) -> Step
     }
 }
 
-// An EOMS for a key, with the slot where its data stands; 16 where no session is open.
+// An EOMS for a key, with the slot where its data is; 16 where no session is open.
 pub fn status(x: State, slot: usize, st: Status) -> Step
     ensures { λ r. ⌜ r ≡ statusTo x slot st ⌝ }
 {

@@ -1,6 +1,5 @@
 // What a frame or a reading makes of one session, by value (01, "Life of a session"). No slots and no store are known here.
 pub mod announcement;
-pub mod bounds;
 pub mod clock;
 pub mod end;
 pub mod segment;

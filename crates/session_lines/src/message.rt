@@ -9,7 +9,7 @@ use text::line::write_line;
 use text::line::write_two;
 use transport::Kind;
 
-// What stands before a message's bytes.
+// What comes before a message's bytes.
 pub fn message_numbers(m: Message) -> [u64; 5]
     ensures { λ r. ⌜ r ≡ messageNumbers m ⌝ }
 {

@@ -1,3 +1,4 @@
 pub mod Slots
 pub mod Bounds
 pub mod Facts
+pub mod Searches

@@ -25,7 +25,7 @@ numbers (n ∷ ns) = spaced n ++ numbers ns
 unfoldable pub lineOf : List ℕ → List ℕ → List ℕ
 lineOf word ns = word ++ (numbers ns ++ (10 ∷ []))
 
--- ---- room: how much is left of it behind n bytes
+-- ---- room: how much is left of it after n bytes
 unfoldable pub leftBy : ℕ → ℕ → Left
 leftBy room n = cond (ltb room n) left.Short (left.Enough (room - n))
 
@@ -102,7 +102,7 @@ module _ (d : List ℕ) (at : ℕ) (x : List ℕ) where
       let e : fits d at x ≡ true = le-leb _ _ h in
       record { answer = then (fits d at x) _ _ _ e (ap wrote.Written (p .place)); bytes = then (fits d at x) _ _ _ e (p .bytes) }
 
--- by the room that is left behind x
+-- by the room that is left after x
 module _ (d : List ℕ) (at : ℕ) (x : List ℕ) (inside : at ≤ length d) where
   pub left-cut : leftBy (length d - at) (length x) ≡ left.Short → Placed d at x wrote.Short d
   left-cut e = let h : length d - at < length x = short-of _ _ e in placed-short d at x (omega arith)
@@ -113,7 +113,7 @@ module _ (d : List ℕ) (at : ℕ) (x : List ℕ) (inside : at ≤ length d) whe
 pub placed-by : {d : List ℕ} {at : ℕ} {x y : List ℕ} {r : Wrote} {out : List ℕ} → x ≡ y → Placed d at y r out → Placed d at x r out
 placed-by {d} {at} {x} {y} {r} {out} e p = subst (λ (z : List ℕ). Placed d at z r out) (sym e) p
 
--- ---- two writes behind each other, looked at together
+-- ---- two writes, one after the other, looked at together
 
 module _ (d : List ℕ) (at : ℕ) (x y : List ℕ) (inside : at ≤ length d) where
   pub first-short : leftBy (length d - at) (length x) ≡ left.Short → Placed d at (x ++ y) wrote.Short d

@@ -34,7 +34,7 @@ module _ (d : List ℕ) (at : ℕ) (x : List ℕ) (inside : at ≤ length d) whe
   unfolding put
   put-drop = ap (drop (at + length x)) (sym (append-assoc (take at d) x (drop (at + length x) d))) ∙ drop-at (take at d ++ x) (drop (at + length x) d) (at + length x) front
 
-  -- what is put right behind goes with it
+  -- what is put right after goes with it
   pub put-put : (y : List ℕ) → put (put d at x) (at + length x) y ≡ put d at (x ++ y)
   unfolding put
   put-put y =
@@ -64,7 +64,7 @@ put-before d i v x h =
     ∙ set-at (take i d) (getD d i 0) tail v i (length-take-le i d (omega arith))
     ∙ ap (λ (k : ℕ). take i d ++ (v ∷ (x ++ drop k d))) q
 
--- ---- what a write leaves: x stands from at on, the rest as it was, and the next place is behind it
+-- ---- what a write leaves: x is there from at on, the rest as it was, and the next place is after it
 pub record PutAt (d : List ℕ) (at : ℕ) (x : List ℕ) (next : ℕ) (out : List ℕ) : Type 0 where
   pub place : next ≡ at + length x
   pub bytes : out ≡ put d at x
@@ -94,7 +94,7 @@ module _ (d : List ℕ) (at : ℕ) (x : List ℕ) (p : ℕ) (o : List ℕ) (room
         bytes = v .bytes ∙ ap (λ (k : ℕ). put o k y) a ∙ ap (λ (l : List ℕ). put l (at + length x) y) (w .bytes) ∙ put-put d at x (omega arith) y;
       }
 
--- two stores behind each other, and three
+-- two stores, one after the other, and three
 pub put-set-two : (d : List ℕ) (at a b : ℕ) → at + 2 ≤ length d → PutAt d at (a ∷ b ∷ []) (at + 2) (set (set d at a) (at + 1) b)
 put-set-two d at a b h =
     let w = put-set d at a (omega arith) in

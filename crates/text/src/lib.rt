@@ -2,7 +2,7 @@
 pub mod decimal;
 pub mod line;
 
-// How much room is left behind some bytes.
+// How much room is left after some bytes.
 pub enum Left {
     Enough(usize),
     Short,
@@ -10,7 +10,7 @@ pub enum Left {
 
 // What a write into a lent buffer answers.
 pub enum Wrote {
-    // the place behind what was written
+    // the place after what was written
     Written(usize),
     // too little room: nothing was written
     Short,

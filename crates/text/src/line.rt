@@ -57,7 +57,7 @@ fn put_octets(out: &mut [u8], at: usize, octets: &[u8]) -> usize
     place
 }
 
-// ---- How much of some room is left behind them.
+// ---- How much of some room is left after them.
 
 fn left_after_fields(room: usize, fields: &[u64]) -> Left
     ensures { λ r. ⌜ r ≡ leftBy room (length (numbers (now (fields .entry)))) ⌝ }
@@ -93,7 +93,7 @@ fn left_after_octets(room: usize, octets: &[u8]) -> Left
 
 // ---- A whole line. Its numbers are those of fields and then those of octets.
 
-// How much of some room is left behind a line.
+// How much of some room is left after a line.
 pub fn left_after_line(room: usize, word: &[u8], fields: &[u64], octets: &[u8]) -> Left
     ensures { λ r. ⌜ r ≡ leftBy room (length (lineOf (now (word .entry)) (now (fields .entry) ++ now (octets .entry)))) ⌝ }
 {
@@ -165,7 +165,9 @@ pub fn write_two(
     fields: &[u64],
     octets: &[u8],
 ) -> Wrote
-    ensures { λ r. ⌜ Placed (now (out .entry)) at (lineOf (now (first .entry)) (now (counts .entry)) ++ lineOf (now (word .entry)) (now (fields .entry) ++ now (octets .entry))) r (now (out .exit)) ⌝ }
+    ensures { λ r. ⌜ Placed (now (out .entry)) at
+        (lineOf (now (first .entry)) (now (counts .entry)) ++ lineOf (now (word .entry)) (now (fields .entry) ++ now (octets .entry))) r
+        (now (out .exit)) ⌝ }
 {
     let length = out.len();
     if length < at {

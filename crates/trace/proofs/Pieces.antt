@@ -8,7 +8,7 @@ use Rattle.trace.specs.Records.{frame, recordBytes}
 use Rattle.trace.specs.Outputs.{Put}
 use Rattle.trace.specs.Placing.{front-room, room-after, put-both, size-four}
 
--- what is left to put behind the identifier, and behind the kind
+-- what is left to put after the identifier, and after the kind
 abbrev counted : List ℕ → List ℕ
 counted s = numberBytes (length s) ++ s
 

@@ -68,7 +68,7 @@ number-back xs ys n h =
     number-at (xs ++ numberBytes n ++ ys) (length xs) n ys h
     (ap (drop (length xs)) (append-assoc xs (numberBytes n) ys) ∙ drop-append-seam xs (numberBytes n ++ ys))
 
--- ---- read, then what stood there
+-- ---- read, then what was there
 
 -- a list of bytes
 abbrev pub Bytes : List ℕ → Type 0
@@ -149,7 +149,7 @@ module _ (more at b m next : ℕ) (bs : List ℕ) (byte : b < 256) (top : 128 �
       let e = held-step more in
       omega arith
 
--- what stands above a group that has more
+-- what is above a group that has more
 above-told : {A : Type 0} (low : ℕ) (r : NumberRead) {n next : ℕ} → onto low 128 r ≡ Number n next
     → ((m : ℕ) → r ≡ Number m next → low + 128 * m ≡ n → A) → A
 above-told low (Number m e) {n} {next} q k = k m (ap (Number m) (place-same q)) (value-same q)
@@ -186,7 +186,7 @@ later-told (suc more) at (b ∷ bs) {n} {next} h e =
           begins = two-begin more at b m next bs (h zero) top up;
         })
 
--- a number that was read: below 2 ^ 32, and its shortest form stood there
+-- a number that was read: below 2 ^ 32, and its shortest form was there
 record OnTold (at : ℕ) (l : List ℕ) (n next : ℕ) : Type 0 where
   low : n < 4294967296
   begins : Begins at l (numberBytes n) next

@@ -60,7 +60,7 @@ module _ (d : List ℕ) (at : ℕ) where
   pub length-placed : (s : List ℕ) → at + length s ≤ length d → length (placed d at s) ≡ length d
   length-placed s h = ap length (sym (stored s (length s) refl)) ∙ length-paste d at s (length s) h (omega arith)
 
-  -- two pieces, one behind the other
+  -- two pieces, one after the other
   pub placed-append : (a b : List ℕ) → at + length a ≤ length d → placed (placed d at a) (at + length a) b ≡ placed d at (a ++ b)
   placed-append a b h =
       let m : ℕ = at + length a in

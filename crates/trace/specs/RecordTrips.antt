@@ -36,7 +36,7 @@ by-kind-back d at kind rest h e =
     sym (else (leb (length d) at) _ _ _ (lt-leb (length d) at inside) refl)
     ∙ ap (λ (r : NumberRead). onNumber r (byKind d)) (number-at d at kind rest h e)
 
--- a reading's record, wherever it stands
+-- a reading's record, wherever it is
 pub reading-at : (d : List ℕ) (at value : ℕ) (rest : List ℕ) → value < 4294967296 → drop at d ≡ recordBytes (reading value) ++ rest
     → recordAt d at ≡ Reading value (at + length (recordBytes (reading value)))
 reading-at d at value rest h e =
@@ -47,11 +47,11 @@ reading-at d at value rest h e =
     ∙ ap (λ (r : NumberRead). onNumber r Reading) (number-at d (at + length A) value rest h (after-piece d at A whole))
     ∙ ap (Reading value) (add-assoc at (length A) (length B) ∙ ap (λ (k : ℕ). at + k) (sym (length-append A B)))
 
--- where a frame's bytes start, behind the kind, the identifier and the length
+-- where a frame's bytes start, after the kind, the identifier and the length
 abbrev pub startOf : ℕ → ℕ → List ℕ → ℕ
 startOf at identifier bytes = at + length (numberBytes 1) + length (numberBytes identifier) + length (numberBytes (length bytes))
 
--- a frame's record, wherever it stands
+-- a frame's record, wherever it is
 module _ (d : List ℕ) (at identifier : ℕ) (bytes rest : List ℕ) (e : drop at d ≡ recordBytes (frame identifier bytes) ++ rest) where
   frame-whole : drop at d ≡ numberBytes 1 ++ (numberBytes identifier ++ (numberBytes (length bytes) ++ (bytes ++ rest)))
   frame-whole = e ∙ simp append-assoc
@@ -102,7 +102,7 @@ record-back xs ys x g =
     says-at (xs ++ recordBytes x ++ ys) (length xs) x ys g
     (ap (drop (length xs)) (append-assoc xs (recordBytes x) ys) ∙ drop-append-seam xs (recordBytes x ++ ys))
 
--- ---- read, then what stood there
+-- ---- read, then what was there
 
 silent : {A : Type 0} {x : Record} {next : ℕ} → nothing ≡ says x next → A
 silent e = absurd (let z : _≡_ {A = ℕ} 0 1 = cc in omega arith)
@@ -127,7 +127,7 @@ test-said : {A : Type 0} (d : List ℕ) (t : Bool) (a b : RecordRead) {x : Recor
 test-said d true a b e p q = p refl e
 test-said d false a b e p q = q refl e
 
--- a record read at a place of a list of bytes is one of the format, its bytes stand there, and nothing else reads as it
+-- a record read at a place of a list of bytes is one of the format, its bytes are there, and nothing else reads as it
 pub record RecordStands (d : List ℕ) (at : ℕ) (x : Record) (next : ℕ) : Type 0 where
   pub good : Good x
   pub place : next ≡ at + length (recordBytes x)

@@ -118,7 +118,7 @@ module _ (xs d : List ℕ) where
         | no h ↦ lt-leb (length (xs ++ d)) (length xs + at) (omega (arith, length-append xs d)) ∙ sym (lt-leb (length d) at (omega arith))
       ]
 
-  -- a record behind other bytes is the record that it is without them
+  -- a record after other bytes is the record that it is without them
   pub record-moved : (at : ℕ) → recordAt (xs ++ d) (length xs + at) ≡ moved (length xs) (recordAt d at)
   unfolding recordAt
   record-moved at =

@@ -20,7 +20,7 @@ fn wide(x: u8) -> u32
     x as u32
 }
 
-// The number that stands at a place.
+// The number at a place.
 pub fn read(s: &[u8], at: usize) -> NumberRead
     ensures { λ r. ⌜ r ≡ numberAt (now (s .entry)) at ⌝ }
 {

@@ -12,7 +12,7 @@ use super::output::Written;
 use octets::copy;
 
 pub enum RecordRead {
-    // no byte stands at the place: between two records, not inside one
+    // no byte is at the place: between two records, not inside one
     End,
     // a reading of the clock, and the place after the record
     Reading {
@@ -32,7 +32,7 @@ pub enum RecordRead {
     Bad(Fault),
 }
 
-// The record that stands at a place.
+// The record at a place.
 pub fn read(s: &[u8], at: usize) -> RecordRead
     ensures { λ r. ⌜ r ≡ recordAt (now (s .entry)) at ⌝ }
 {

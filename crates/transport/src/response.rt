@@ -183,7 +183,8 @@ fn read_abort(key: Key, frame: &[u8]) -> ResponseRead
     ResponseRead::Refused(Refusal::NotReceivers)
 }
 
-// What a responder's frame says, for the one who sent the message.
+// What a responder's frame says, for the one who sent the message: the sender that 02 asks for (E2). Until then it shows that what is
+// written is read back.
 pub fn read_response(route: Route, frame: &[u8]) -> ResponseRead
     ensures { λ r. ⌜ r ≡ responseOf route (now (frame .entry)) ⌝ }
 {

@@ -5,7 +5,7 @@ use frame::SegmentNumber;
 use frame::octet::low24_at;
 use frame::refusal::Refusal;
 
-// What stands before a segment's data, and how many bytes follow.
+// What comes before a segment's data, and how many bytes follow.
 pub struct Segment {
     pub format: u8,
     pub number: SegmentNumber,

@@ -13,7 +13,7 @@ use Rattle.frame.specs.Lengths.{isLength}
 use Rattle.frame.specs.declared.refusal.Refusal.{Refusal}
 use Rattle.frame.specs.declared.refusal.Refusal.the-variants.{FrameLength, OutOfBounds}
 use Rattle.multi_pg.specs.declared.Group.{Group}
-use Rattle.multi_pg.specs.Groups.{Reading, good, bad, reading, groupsIn, groupsOf}
+use Rattle.multi_pg.specs.Groups.{GroupsRead, good, bad, groupsRead, groupsIn, groupsOf}
 use Rattle.unpacking.specs.declared.Unpacked.{Unpacked}
 use Rattle.unpacking.specs.declared.Unpacked.the-variants.{Groups, Refused}
 use Rattle.unpacking.specs.Unpacking.{rows, unpackedBy, unpacked}
@@ -46,9 +46,9 @@ module _ (o : Group) where
 
 -- ---- what an answer tells
 
--- the answer n with the list l: the frame is good, n counts its groups, their numbers stand in l by index, the rest of l is that of out
+-- the answer n with the list l: the frame is good, n counts its groups, their numbers are in l by index, the rest of l is that of out
 pub record Given (d out l : List ℕ) (n : ℕ) : Type 0 where
-  pub judged : reading d ≡ good (groupsOf d)
+  pub judged : groupsRead d ≡ good (groupsOf d)
   pub count : n ≡ length (groupsOf d)
   pub most : n ≤ 16
   pub pgn : (i : ℕ) (o : Group) → i < n → getD l (3 * i) 0 ≡ getD (groupsOf d) i o .pgn
@@ -58,7 +58,7 @@ pub record Given (d out l : List ℕ) (n : ℕ) : Type 0 where
   pub long : length l ≡ length out
 
 module _ (d out : List ℕ) where
-  given-by : (gs : List Group) → reading d ≡ good gs → length d ≤ 64 → length out ≡ 48 → Given d out (rows gs ++ drop (3 * length gs) out) (length gs)
+  given-by : (gs : List Group) → groupsRead d ≡ good gs → length d ≤ 64 → length out ≡ 48 → Given d out (rows gs ++ drop (3 * length gs) out) (length gs)
   given-by gs e h k =
       let same : gs ≡ groupsOf d = ap groupsIn (sym e) in
       let room : 4 * length gs ≤ length d = few d gs e in
@@ -86,11 +86,11 @@ module _ (d out : List ℕ) where
   never : (r : Refusal) (n : ℕ) (l : List ℕ) → _≡_ {A = Unpacked × List ℕ} (Refused r, out) (Groups n, l) → ⊥
   never r n l e = let q : Refused r ≡ Groups n = ap (λ (p : Unpacked × List ℕ). p .0) e in let z : _≡_ {A = ℕ} 0 1 = cc in omega arith
 
-  -- Whatever is lent: the answer is a count only where the groups of a good frame stand in the list.
+  -- Whatever is lent: the answer is a count only where the groups of a good frame are in the list.
   pub given : (n : ℕ) (l : List ℕ) → unpacked d out ≡ (Groups n, l) → Given d out l n
   unfolding unpacked
-  given n l e = go (not (eqb (length out) 48)) refl (not (isLength (length d))) refl (reading d) refl e where
-    go : (a : Bool) → not (eqb (length out) 48) ≡ a → (b : Bool) → not (isLength (length d)) ≡ b → (r : Reading) → reading d ≡ r
+  given n l e = go (not (eqb (length out) 48)) refl (not (isLength (length d))) refl (groupsRead d) refl e where
+    go : (a : Bool) → not (eqb (length out) 48) ≡ a → (b : Bool) → not (isLength (length d)) ≡ b → (r : GroupsRead) → groupsRead d ≡ r
         → cond a (Refused OutOfBounds, out) (cond b (Refused FrameLength, out) (unpackedBy r out)) ≡ (Groups n, l) → Given d out l n
     go true p b q r z e = absurd (never OutOfBounds n l e)
     go false p true q r z e = absurd (never FrameLength n l e)
@@ -106,8 +106,8 @@ module _ (d out : List ℕ) where
   -- a refusal leaves the list as it was
   pub refused : (r : Refusal) (l : List ℕ) → unpacked d out ≡ (Refused r, l) → l ≡ out
   unfolding unpacked
-  refused r l e = go (not (eqb (length out) 48)) (not (isLength (length d))) (reading d) e where
-    go : (a b : Bool) (x : Reading) → cond a (Refused OutOfBounds, out) (cond b (Refused FrameLength, out) (unpackedBy x out)) ≡ (Refused r, l) → l ≡ out
+  refused r l e = go (not (eqb (length out) 48)) (not (isLength (length d))) (groupsRead d) e where
+    go : (a b : Bool) (x : GroupsRead) → cond a (Refused OutOfBounds, out) (cond b (Refused FrameLength, out) (unpackedBy x out)) ≡ (Refused r, l) → l ≡ out
     go true b x e = sym (ap (λ (p : Unpacked × List ℕ). p .1) e)
     go false true x e = sym (ap (λ (p : Unpacked × List ℕ). p .1) e)
     go false false (bad y) e = sym (ap (λ (p : Unpacked × List ℕ). p .1) e)
@@ -115,9 +115,9 @@ module _ (d out : List ℕ) where
         let q : Groups (length gs) ≡ Refused r = ap (λ (p : Unpacked × List ℕ). p .0) e in absurd (let z : _≡_ {A = ℕ} 0 1 = cc in omega arith)
 
   -- and a good frame of a CAN FD length is not refused
-  pub answered : length out ≡ 48 → isLength (length d) ≡ true → (gs : List Group) → reading d ≡ good gs → Groups (length gs) ≡ unpacked d out .0
+  pub answered : length out ≡ 48 → isLength (length d) ≡ true → (gs : List Group) → groupsRead d ≡ good gs → Groups (length gs) ≡ unpacked d out .0
   unfolding unpacked
   answered h k gs e =
       ap (λ (p : Unpacked × List ℕ). p .0)
       (else (not (eqb (length out) 48)) _ _ _ (ap not (eq-eqb (length out) 48 h))
-      (else (not (isLength (length d))) _ _ _ (ap not k) (ap (λ (r : Reading). unpackedBy r out) (sym e))))
+      (else (not (isLength (length d))) _ _ _ (ap not k) (ap (λ (r : GroupsRead). unpackedBy r out) (sym e))))

@@ -11,14 +11,14 @@ use Rattle.laws.specs.Choice.{each-of}
 use Rattle.frame.specs.Lengths.{lengths, isLength}
 use Rattle.frame.specs.LengthLaws.{among, is-among}
 use Rattle.multi_pg.specs.declared.Group.{Group}
-use Rattle.multi_pg.specs.Groups.{Reading, good, bad, reading, groupsIn, groupsOf}
+use Rattle.multi_pg.specs.Groups.{GroupsRead, good, bad, groupsRead, groupsIn, groupsOf}
 use Rattle.multi_pg.specs.Reader.{Chain, last, link, good-chain}
 
 chain-room : (d : List ℕ) {at : ℕ} {gs : List Group} → at ≤ length d → Chain d at gs → at + 4 * length gs ≤ length d
 chain-room d h (last e) = omega arith
 chain-room d {at} h (link p c) = omega (arith, p .whole, chain-room d (p .whole) c)
 
-pub few : (d : List ℕ) (gs : List Group) → reading d ≡ good gs → 4 * length gs ≤ length d
+pub few : (d : List ℕ) (gs : List Group) → groupsRead d ≡ good gs → 4 * length gs ≤ length d
 few d gs e = omega (arith, chain-room d (omega arith) (good-chain d gs e))
 
 abbrev allTo : ℕ → List ℕ → Bool
@@ -38,10 +38,10 @@ one-to top m (n ∷ ns) h e =
 pub length-to : (m : ℕ) → isLength m ≡ true → m ≤ 64
 length-to m e = one-to 64 m lengths refl (sym (is-among m) ∙ e)
 
-groups-few : (d : List ℕ) (r : Reading) → reading d ≡ r → 4 * length (groupsIn r) ≤ length d
+groups-few : (d : List ℕ) (r : GroupsRead) → groupsRead d ≡ r → 4 * length (groupsIn r) ≤ length d
 groups-few d (good gs) e = few d gs e
 groups-few d (bad r) e = omega arith
 
 -- a frame of a CAN FD length has at most 16 groups, so that 48 numbers hold them
 pub at-most-16 : (d : List ℕ) → isLength (length d) ≡ true → length (groupsOf d) ≤ 16
-at-most-16 d e = omega (arith, length-to (length d) e, groups-few d (reading d) refl)
+at-most-16 d e = omega (arith, length-to (length d) e, groups-few d (groupsRead d) refl)

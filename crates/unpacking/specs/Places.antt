@@ -1,4 +1,4 @@
--- What the code asks of a place. Nothing here is to be believed: proofs tie each to the reading of a frame.
+-- What the code asks of a place. Nothing here is to be believed: proofs tie each to what a frame holds.
 use Prim.Native.Nat.{ℕ, _+_, _-_, _/_, _≤_, _<_}
 use native.Mathlib.Omega.{arith}
 use mathlib.Core.Path.{_≡_, refl, sym, ap, _∙_}
@@ -11,7 +11,7 @@ use Rattle.laws.specs.Choice.{then, else}
 use Rattle.multi_pg.specs.declared.Group.{Group}
 use Rattle.multi_pg.specs.declared.Step.{Step}
 use Rattle.multi_pg.specs.declared.Step.the-variants as step
-use Rattle.multi_pg.specs.Groups.{tos, dataLength, stepAt, good, after, reading}
+use Rattle.multi_pg.specs.Groups.{tos, dataLength, stepAt, good, after, groupsRead}
 use Rattle.multi_pg.specs.Places.{Plain, plain-step, step-plain, read-all, read-group, read-end}
 
 abbrev pub isGroup : Step → Bool
@@ -19,7 +19,7 @@ isGroup (step.At g) = true
 isGroup step.End = false
 isGroup (step.Fault r) = false
 
--- a frame too short for a group, or with an end behind its first header and that one's data
+-- a frame too short for a group, or with an end after its first header and that one's data
 abbrev pub firstIsLast : List ℕ → Bool
 firstIsLast d =
     cond (ltb (length d) 4) true
@@ -58,7 +58,7 @@ module _ (d : List ℕ) where
   last-by to false false p q e h k = end-byte to false q (eqb-true (getD d to 0 / 32) 0 e)
 
   -- if the first group is the last, it is all that the frame has
-  pub one-group : (g : Group) → firstIsLast d ≡ true → stepAt d 0 ≡ step.At g → reading d ≡ good (g ∷ [])
+  pub one-group : (g : Group) → firstIsLast d ≡ true → stepAt d 0 ≡ step.At g → groupsRead d ≡ good (g ∷ [])
   one-group g f e =
       let (p, same) = step-plain d 0 g e in
       let w : 0 + 4 + dataLength d 0 ≤ length d = p .whole in

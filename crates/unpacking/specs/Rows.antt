@@ -13,7 +13,7 @@ rowAt l i a b c = set (set (set l i a) (i + 1) b) (i + 2) c
 pub row-length : (l : List ℕ) (i a b c : ℕ) → length (rowAt l i a b c) ≡ length l
 row-length l i a b c = simp length-set
 
--- a row and what is written behind it
+-- a row and what is written after it
 pub row-sets : (l : List ℕ) (i a b c : ℕ) (vs : List ℕ) → sets (rowAt l i a b c) (i + 3) vs ≡ sets l i (a ∷ b ∷ c ∷ vs)
 row-sets l i a b c vs =
     let e₁ : i + 1 ≡ suc i = add-one i in

@@ -3,7 +3,7 @@ use mathlib.Core.Path.{_≡_, refl}
 use mathlib.Core.List.{[], _∷_}
 use lib.ListN.{replicate}
 use Rattle.frame.specs.declared.refusal.Refusal.the-variants.{PgnForm}
-use Rattle.multi_pg.specs.Groups.{readFrom, reading}
+use Rattle.multi_pg.specs.Groups.{readFrom, groupsRead}
 use Rattle.unpacking.specs.declared.Unpacked.the-variants.{Groups, Refused}
 use Rattle.unpacking.specs.Unpacking.{unpacked}
 
@@ -15,5 +15,5 @@ pub record Rows : Type 0 where
       ≡ (Groups 2, 65226 ∷ 4 ∷ 1 ∷ 125440 ∷ 9 ∷ 0 ∷ replicate 42 7)
 
 pub table : Rows
-unfolding unpacked reading readFrom
+unfolding unpacked groupsRead readFrom
 table = record { p1 = refl; p2 = refl; p5 = refl; two = refl }

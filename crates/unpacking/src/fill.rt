@@ -3,7 +3,7 @@ ghost use mathlib.Core.Path.{_≡_};
 ghost use mathlib.Core.Bool.{true};
 ghost use Prim.Native.Nat.{_≤_};
 ghost use lib.ListN.{length};
-ghost use Rattle.multi_pg.specs.Groups.{reading};
+ghost use Rattle.multi_pg.specs.Groups.{groupsRead};
 ghost use Rattle.unpacking.specs.Unpacking.{unpackedBy};
 ghost use Rattle.unpacking.specs.Places.{firstIsLast};
 use super::Unpacked;
@@ -19,7 +19,7 @@ use multi_pg::read::step;
 // A frame whose first group, if it has one, is its last.
 pub fn first_only(frame: &[u8], out: &mut [u32]) -> Unpacked
     requires { ⌜ (firstIsLast (now frame) ≡ true) × (length (now frame) ≤ 64) × (length (now out) ≡ 48) ⌝ }
-    ensures { λ r. ⌜ (r, now (out .exit)) ≡ unpackedBy (reading (now (frame .entry))) (now (out .entry)) ⌝ }
+    ensures { λ r. ⌜ (r, now (out .exit)) ≡ unpackedBy (groupsRead (now (frame .entry))) (now (out .entry)) ⌝ }
 {
     match step(frame, 0) {
         Step::At(g) => {
@@ -31,11 +31,11 @@ pub fn first_only(frame: &[u8], out: &mut [u32]) -> Unpacked
     }
 }
 
-// Any frame. One pass writes each group where it is met and keeps what stood there. A fault puts it all back, so that the caller is
+// Any frame. One pass writes each group where it is met and keeps what was there. A fault puts it all back, so that the caller is
 // given no group of a frame that is not good as a whole.
 pub fn fill(frame: &[u8], out: &mut [u32]) -> Unpacked
     requires { ⌜ (length (now frame) ≤ 64) × (length (now out) ≡ 48) ⌝ }
-    ensures { λ r. ⌜ (r, now (out .exit)) ≡ unpackedBy (reading (now (frame .entry))) (now (out .entry)) ⌝ }
+    ensures { λ r. ⌜ (r, now (out .exit)) ≡ unpackedBy (groupsRead (now (frame .entry))) (now (out .entry)) ⌝ }
 {
     let mut kept = [0u32; 48];
     let mut count: usize = 0;
@@ -55,7 +55,7 @@ pub fn fill(frame: &[u8], out: &mut [u32]) -> Unpacked
             put_back(out, &kept, 3 * count);
             Unpacked::Refused(r)
         }
-        // not met: the loop goes on where a group stands
+        // not met: the loop goes on where there is a group
         Step::At(_) => Unpacked::Groups(count),
     }
 }

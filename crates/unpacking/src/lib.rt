@@ -17,7 +17,7 @@ pub enum Unpacked {
     Refused(Refusal),
 }
 
-// Writes PGN, start and length of each group into a list of 48 numbers, which holds the groups of any CAN FD frame. The numbers behind
+// Writes PGN, start and length of each group into a list of 48 numbers, which holds the groups of any CAN FD frame. The numbers after
 // them, and on a refusal all, stay as they were.
 pub fn unpack(frame: &[u8], out: &mut [u32]) -> Unpacked
     ensures { λ r. ⌜ (r, now (out .exit)) ≡ unpacked (now (frame .entry)) (now (out .entry)) ⌝ }

@@ -6,7 +6,7 @@ ghost use Rattle.multi_pg.specs.Groups.{stepAt};
 ghost use Rattle.unpacking.specs.Places.{isGroup, firstIsLast};
 use frame::octet::wide;
 
-// Whether a group stands at a place: TOS 2 and TF 0 are 16 in the first byte's top six bits.
+// Whether a group is at a place: TOS 2 and TF 0 are 16 in the first byte's top six bits.
 pub fn is_group(frame: &[u8], at: usize) -> bool
     requires { ⌜ (at ≤ length (now frame)) × (length (now frame) ≤ 64) ⌝ }
     ensures { λ r. ⌜ r ≡ isGroup (stepAt (now (frame .entry)) at) ⌝ }
@@ -26,7 +26,7 @@ pub fn is_group(frame: &[u8], at: usize) -> bool
     start + wide(frame[at + 3]) as usize <= frame.len()
 }
 
-// Whether the place behind a first group is an end, as it is in a frame of one group.
+// Whether the place after a first group is an end, as it is in a frame of one group.
 pub fn first_is_last(frame: &[u8]) -> bool
     ensures { λ r. ⌜ r ≡ firstIsLast (now (frame .entry)) ⌝ }
 {

@@ -15,7 +15,7 @@ pub fn write(out: &mut [u32], i: usize, pgn: u32, start: u32, len: u32)
     out[i + 2] = len;
 }
 
-// Keeps the three numbers that stand there.
+// Keeps the three numbers that are there.
 pub fn keep(out: &[u32], i: usize, kept: &mut [u32])
     requires { ⌜ (i + 3 ≤ length (now out)) × (i + 3 ≤ length (now kept)) ⌝ }
     ensures { λ _. ⌜ now (kept .exit) ≡ rowAt (now (kept .entry)) i (getD (now (out .entry)) i 0) (getD (now (out .entry)) (i + 1) 0) (getD (now (out .entry)) (i + 2) 0) ⌝ }

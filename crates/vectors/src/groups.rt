@@ -47,7 +47,7 @@ fn ending(frame: &[u8], at: usize) {
     show::end();
 }
 
-// A frame that was packed into the first n bytes of out: what stands from the place at on, and what is read from it.
+// A frame that was packed into the first n bytes of out: what is there from the place at on, and what is read from it.
 fn packed(name: &[u8], out: &[u8], n: usize, at: usize) {
     if n <= out.len() {
         ending(&out[0..n], at);

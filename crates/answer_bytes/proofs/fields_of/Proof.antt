@@ -1,6 +1,5 @@
 use Prim.Native.Nat.{ℕ}
-use mathlib.Core.Path.{_≡_, refl, sym, ap, _∙_}
-use Rattle.transport.specs.declared.Key.{Key}
+use mathlib.Core.Path.{sym, ap, _∙_}
 use Rattle.answer_bytes.specs.Answers.{noKey, keyed, fieldsOf}
 use borrow.Author.Needs.{needs}
 use Rattle.answer_bytes.proofs.fields_of.Statement.{statement}
@@ -104,7 +103,12 @@ returns-8 : tie.Need-returns-8
 returns-8 c = c .rejection-fields .ensures ∙ sym (ap fieldsOf (c .before .before .a7 .given .1))
 
 returns-9 : tie.Need-returns-9
-returns-9 c = c .keyed-fields4 .ensures ∙ ap (keyed 9 (c .before .before .number .result)) (c .before .no-key2 .ensures) ∙ ap (λ (n : ℕ). keyed 9 n noKey) (c .before .before .number .ensures) ∙ sym (ap fieldsOf (c .before .before .before .before .a8 .given .1))
+returns-9 c =
+    let told = c .before .before in
+    c .keyed-fields4 .ensures
+    ∙ ap (keyed 9 (told .number .result)) (c .before .no-key2 .ensures)
+    ∙ ap (λ (n : ℕ). keyed 9 n noKey) (told .number .ensures)
+    ∙ sym (ap fieldsOf (told .before .before .a8 .given .1))
 
 pub fields-of-spec : {M : Type 1} → statement M
 fields-of-spec =

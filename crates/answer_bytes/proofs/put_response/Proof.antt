@@ -1,29 +1,32 @@
-use mathlib.Core.Path.{_≡_, refl, sym, ap, _∙_}
 use denote.Ref.{now}
 use Rattle.answer_bytes.proofs.Sent.{response-put}
 use borrow.Author.Needs.{needs}
 use Rattle.answer_bytes.proofs.put_response.Statement.{statement}
 use Rattle.answer_bytes.proofs.put_response.Tie as tie
-use Rattle.answer_bytes.proofs.put_response.Reads as reads
-use Rattle.answer_bytes.proofs.put_response.Lts as lts
-use Rattle.answer_bytes.proofs.sent_head.Reads as sent-head-reads
-use Rattle.transport.proofs.response.bytes.Reads as bytes-reads
-use Rattle.transport.proofs.response.identifier.Reads as identifier-reads
-
-identifier-requires : tie.Need-identifier-requires
-identifier-requires c κs = search needs
-
-sent-head-requires : tie.Need-sent-head-requires
-sent-head-requires c κs = search needs
 
 bytes-requires : tie.Need-bytes-requires
 bytes-requires c κs = search needs
+
+add-copy : tie.Need-add-copy
+add-copy c = search needs
 
 slice-aggregate-copy : tie.Need-slice-aggregate-copy
 slice-aggregate-copy c = search needs
 
 copy-requires : tie.Need-copy-requires
 copy-requires c κs = search needs
+
+add-put-word : tie.Need-add-put-word
+add-put-word c = search needs
+
+identifier-requires : tie.Need-identifier-requires
+identifier-requires c κs = search needs
+
+put-word-requires : tie.Need-put-word-requires
+put-word-requires c κs = search needs
+
+add-copy-2 : tie.Need-add-copy-2
+add-copy-2 c = search needs
 
 slice-aggregate-copy-2 : tie.Need-slice-aggregate-copy-2
 slice-aggregate-copy-2 c = search needs
@@ -36,18 +39,28 @@ same-length c = search needs
 
 returns : tie.Need-returns
 returns c =
-    let a = c .before .before .before .before .before .before .before .before .before .before .before .before .before .before .args in
-    response-put (a .f) (now (a .out)) (c .before .before .before .before .before .before .before .copy .last .0) (c .before .before .copy2 .last .0) (c .before .before .before .before .before .before .before .before .before .before .before .sent-head .result) (c .before .before .before .before .before .before .before .before .before .before .bytes .result) (c .before .before .before .before .before .before .before .before .before .before .before .before .identifier .result) (search needs) (c .before .before .before .before .before .before .before .before .before .before .before .before .identifier .ensures) (c .before .before .before .before .before .before .before .before .before .before .before .sent-head .ensures) (c .before .before .before .before .before .before .before .before .before .before .bytes .ensures) (c .before .before .before .before .before .before .before .copy .ensures) (c .before .before .copy2 .ensures)
+    let third = c .before .before in
+    let second = third .before .before .before .before .before in
+    let id = second .before in
+    let first = id .before .before .before .before in
+    let bytes = first .before .before .before in
+    let a = bytes .before .before .args in
+    response-put (a .f) (now (a .out)) (first .copy .last .0) (second .put-word .last .0) (third .copy2 .last .0)
+    (bytes .bytes .result) (a .at) (id .identifier .result) (search needs) (id .identifier .ensures) (bytes .bytes .ensures)
+    (first .copy .ensures) (second .put-word .ensures) (third .copy2 .ensures)
 
 pub put-response-spec : {M : Type 1} → statement M
 put-response-spec =
     tie.close
     (tie.spec
-    identifier-requires
-    sent-head-requires
     bytes-requires
+    add-copy
     slice-aggregate-copy
     copy-requires
+    add-put-word
+    identifier-requires
+    put-word-requires
+    add-copy-2
     slice-aggregate-copy-2
     copy-requires-2
     same-length

@@ -38,8 +38,13 @@ loop-less c = search needs
 
 loop-again : tie.Need-loop-again Inv-loop μ-loop
 loop-again c =
-    let a = c .before .before .before .args in
-    (copy-turn (c .before .before .loop .out) (now (a .out)) (a .at) (now (a .src)) (a .from) (c .before .before .loop .j) (c .before .before .loop .inv .0) (omega arith) (omega arith), search needs, simp length-set (c .before .before .loop .inv .2))
+    let start = c .before .before .before in
+    let a = start .args in (
+      copy-turn (c .before .before .loop .out) (now (a .out)) (a .at) (now (a .src)) (a .from) (c .before .before .loop .j)
+          (c .before .before .loop .inv .0) (omega arith) (omega arith),
+      search needs,
+      simp length-set (c .before .before .loop .inv .2),
+    )
 
 same-length : tie.Need-same-length Inv-loop μ-loop
 same-length c = search needs

@@ -48,33 +48,71 @@ fits-requires c κs = search needs
 
 returns-2 : tie.Need-returns-2
 unfolding packed
-returns-2 c = else (not (pgnsOk (now (c .before .before .before .before .before .before .before .before .before .args .pgns)))) _ _ _ (ap not (sym (c .before .before .before .before .all-pgns .ensures)) ∙ c .before .before .before .if1 .left)
-    (then (not (requestFits (now (c .before .before .before .before .before .before .before .before .before .args .pgns)) (now (c .before .before .before .before .before .before .before .before .before .args .lengths)) (now (c .before .before .before .before .before .before .before .before .before .args .«data»)) (length (now (c .before .before .before .before .before .before .before .before .before .args .out))))) _ _ _ (ap not (sym (c .before .fits2 .ensures)) ∙ c .if2 .taken) refl)
+returns-2 c =
+    let at-if1 = c .before .before .before in
+    let at-all-pgns = at-if1 .before in
+    let start = at-all-pgns .before .before .before .before .before in
+    else (not (pgnsOk (now (start .args .pgns)))) _ _ _ (ap not (sym (at-all-pgns .all-pgns .ensures)) ∙ at-if1 .if1 .left)
+    (then (not (requestFits (now (start .args .pgns)) (now (start .args .lengths)) (now (start .args .«data»))
+    (length (now (start .args .out))))) _ _ _ (ap not (sym (c .before .fits2 .ensures)) ∙ c .if2 .taken) refl)
 
 frame-length-requires : tie.Need-frame-length-requires
 frame-length-requires c κs = search needs
 
 write-groups-requires : tie.Need-write-groups-requires
-write-groups-requires c κs = let m = request-met (now (c .before .before .before .before .before .before .before .before .before .before .before .args .pgns)) (now (c .before .before .before .before .before .before .before .before .before .before .before .args .lengths)) (now (c .before .before .before .before .before .before .before .before .before .before .before .args .«data»)) (length (now (c .before .before .before .before .before .before .before .before .before .before .before .args .out))) (sym (c .before .before .before .fits2 .ensures) ∙ not-false _ (c .before .before .if2 .left)) in
+write-groups-requires c κs =
+    let at-fits2 = c .before .before .before in
+    let start = at-fits2 .before .before .before .before .before .before .before .before in
+    let m = request-met (now (start .args .pgns)) (now (start .args .lengths)) (now (start .args .«data»)) (length (now (start .args .out)))
+    (sym (at-fits2 .fits2 .ensures) ∙ not-false _ (c .before .before .if2 .left)) in
     (m .even, m .whole, omega arith)
 
 sub-pad : tie.Need-sub-pad
-sub-pad c = let m = request-met (now (c .before .before .before .before .before .before .before .before .before .before .before .before .before .before .before .args .pgns)) (now (c .before .before .before .before .before .before .before .before .before .before .before .before .before .before .before .args .lengths)) (now (c .before .before .before .before .before .before .before .before .before .before .before .before .before .before .before .args .«data»)) (length (now (c .before .before .before .before .before .before .before .before .before .before .before .before .before .before .before .args .out))) (sym (c .before .before .before .before .before .before .before .fits2 .ensures) ∙ not-false _ (c .before .before .before .before .before .before .if2 .left)) in
-    let e : c .before .before .before .before .before .before .before .before .need .result ≡ needed (now (c .before .before .before .before .before .before .before .before .before .before .before .before .before .before .before .args .lengths)) = c .before .before .before .before .before .before .before .before .need .ensures ∙ capped-low (needed (now (c .before .before .before .before .before .before .before .before .before .before .before .before .before .before .before .args .lengths))) (m .small) in
-    omega (arith, frame-bounds (needed (now (c .before .before .before .before .before .before .before .before .before .before .before .before .before .before .before .args .lengths))) (m .small), c .before .before .before .before .before .frame-length .ensures ∙ ap frameLength e)
+sub-pad c =
+    let at-frame-length = c .before .before .before .before .before in
+    let at-if2 = at-frame-length .before in
+    let at-fits2 = at-if2 .before in
+    let at-need = at-fits2 .before in
+    let start = at-need .before .before .before .before .before .before .before in
+    let m = request-met (now (start .args .pgns)) (now (start .args .lengths)) (now (start .args .«data»)) (length (now (start .args .out)))
+    (sym (at-fits2 .fits2 .ensures) ∙ not-false _ (at-if2 .if2 .left)) in
+    let e : at-need .need .result ≡ needed (now (start .args .lengths)) = at-need .need .ensures ∙ capped-low (needed (now (start .args .lengths))) (m .small) in
+    omega (arith, frame-bounds (needed (now (start .args .lengths))) (m .small), at-frame-length .frame-length .ensures ∙ ap frameLength e)
 
 pad-requires : tie.Need-pad-requires
-pad-requires c κs = let m = request-met (now (c .before .before .before .before .before .before .before .before .before .before .before .before .before .before .before .args .pgns)) (now (c .before .before .before .before .before .before .before .before .before .before .before .before .before .before .before .args .lengths)) (now (c .before .before .before .before .before .before .before .before .before .before .before .before .before .before .before .args .«data»)) (length (now (c .before .before .before .before .before .before .before .before .before .before .before .before .before .before .before .args .out))) (sym (c .before .before .before .before .before .before .before .fits2 .ensures) ∙ not-false _ (c .before .before .before .before .before .before .if2 .left)) in
-    let e : c .before .before .before .before .before .before .before .before .need .result ≡ needed (now (c .before .before .before .before .before .before .before .before .before .before .before .before .before .before .before .args .lengths)) = c .before .before .before .before .before .before .before .before .need .ensures ∙ capped-low (needed (now (c .before .before .before .before .before .before .before .before .before .before .before .before .before .before .before .args .lengths))) (m .small) in
-    omega (arith, frame-bounds (needed (now (c .before .before .before .before .before .before .before .before .before .before .before .before .before .before .before .args .lengths))) (m .small), c .before .before .before .before .before .frame-length .ensures ∙ ap frameLength e, c .before .before .before .write-groups .kept)
+pad-requires c κs =
+    let at-write-groups = c .before .before .before in
+    let at-frame-length = at-write-groups .before .before in
+    let at-if2 = at-frame-length .before in
+    let at-fits2 = at-if2 .before in
+    let at-need = at-fits2 .before in
+    let start = at-need .before .before .before .before .before .before .before in
+    let m = request-met (now (start .args .pgns)) (now (start .args .lengths)) (now (start .args .«data»)) (length (now (start .args .out)))
+    (sym (at-fits2 .fits2 .ensures) ∙ not-false _ (at-if2 .if2 .left)) in
+    let e : at-need .need .result ≡ needed (now (start .args .lengths)) = at-need .need .ensures ∙ capped-low (needed (now (start .args .lengths))) (m .small) in
+    omega (arith, frame-bounds (needed (now (start .args .lengths))) (m .small), at-frame-length .frame-length .ensures ∙ ap frameLength e, at-write-groups .write-groups .kept)
 
 same-length : tie.Need-same-length
 same-length c = search needs
 
 returns-3 : tie.Need-returns-3
-returns-3 c = let m = request-met (now (c .before .before .before .before .before .before .before .before .before .before .before .before .before .before .before .before .before .before .args .pgns)) (now (c .before .before .before .before .before .before .before .before .before .before .before .before .before .before .before .before .before .before .args .lengths)) (now (c .before .before .before .before .before .before .before .before .before .before .before .before .before .before .before .before .before .before .args .«data»)) (length (now (c .before .before .before .before .before .before .before .before .before .before .before .before .before .before .before .before .before .before .args .out))) (sym (c .before .before .before .before .before .before .before .before .before .before .fits2 .ensures) ∙ not-false _ (c .before .before .before .before .before .before .before .before .before .if2 .left)) in
-    accepted (now (c .before .before .before .before .before .before .before .before .before .before .before .before .before .before .before .before .before .before .args .pgns)) (now (c .before .before .before .before .before .before .before .before .before .before .before .before .before .before .before .before .before .before .args .lengths)) (now (c .before .before .before .before .before .before .before .before .before .before .before .before .before .before .before .before .before .before .args .«data»)) (now (c .before .before .before .before .before .before .before .before .before .before .before .before .before .before .before .before .before .before .args .out)) (c .before .before .before .before .before .before .write-groups .last .1 .1 .1 .0) (c .before .before .pad .last .0) (c .before .before .before .before .before .before .before .before .frame-length .result) (c .before .before .before .before .before .before .before .before .before .before .before .need .result) m
-    (sym (c .before .before .before .before .before .before .before .before .before .before .before .before .before .all-pgns .ensures) ∙ not-false _ (c .before .before .before .before .before .before .before .before .before .before .before .before .if1 .left)) (sym (c .before .before .before .before .before .before .before .before .before .before .fits2 .ensures) ∙ not-false _ (c .before .before .before .before .before .before .before .before .before .if2 .left)) (c .before .before .before .before .before .before .before .before .before .before .before .need .ensures ∙ capped-low (needed (now (c .before .before .before .before .before .before .before .before .before .before .before .before .before .before .before .before .before .before .args .lengths))) (m .small)) (c .before .before .before .before .before .before .before .before .frame-length .ensures) (c .before .before .before .before .before .before .write-groups .ensures) (c .before .before .pad .ensures)
+returns-3 c =
+    let at-write-groups = c .before .before .before .before .before .before in
+    let at-frame-length = at-write-groups .before .before in
+    let at-if2 = at-frame-length .before in
+    let at-fits2 = at-if2 .before in
+    let at-need = at-fits2 .before in
+    let at-if1 = at-need .before in
+    let at-all-pgns = at-if1 .before in
+    let start = at-all-pgns .before .before .before .before .before in
+    let m = request-met (now (start .args .pgns)) (now (start .args .lengths)) (now (start .args .«data»)) (length (now (start .args .out)))
+    (sym (at-fits2 .fits2 .ensures) ∙ not-false _ (at-if2 .if2 .left)) in
+    accepted (now (start .args .pgns)) (now (start .args .lengths)) (now (start .args .«data»)) (now (start .args .out))
+    (at-write-groups .write-groups .last .1 .1 .1 .0) (c .before .before .pad .last .0) (at-frame-length .frame-length .result)
+    (at-need .need .result) m
+    (sym (at-all-pgns .all-pgns .ensures) ∙ not-false _ (at-if1 .if1 .left)) (sym (at-fits2 .fits2 .ensures) ∙ not-false _ (at-if2 .if2 .left))
+    (at-need .need .ensures ∙ capped-low (needed (now (start .args .lengths))) (m .small)) (at-frame-length .frame-length .ensures)
+    (at-write-groups .write-groups .ensures) (c .before .before .pad .ensures)
 
 pub pack-spec : {M : Type 1} → statement M
 pack-spec =

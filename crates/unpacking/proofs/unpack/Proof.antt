@@ -9,7 +9,7 @@ use borrow.Author.Tests.{eq-eqb, ne-eqb, not-true, not-false}
 use Rattle.laws.specs.Choice.{then, else}
 use Rattle.frame.specs.Lengths.{isLength}
 use Rattle.frame.specs.declared.refusal.Refusal.the-variants.{FrameLength, OutOfBounds}
-use Rattle.multi_pg.specs.Groups.{reading}
+use Rattle.multi_pg.specs.Groups.{groupsRead}
 use Rattle.unpacking.specs.declared.Unpacked.{Unpacked}
 use Rattle.unpacking.specs.declared.Unpacked.the-variants.{Refused}
 use Rattle.unpacking.specs.Unpacking.{unpackedBy, unpacked}
@@ -28,7 +28,7 @@ module _ (d o : List ℕ) where
   other-length h k =
       else (not (eqb (length o) 48)) _ _ _ (ap not (eq-eqb (length o) 48 h)) (then (not (isLength (length d))) _ _ _ (ap not k) refl)
 
-  whole : (x : Unpacked × List ℕ) → length o ≡ 48 → isLength (length d) ≡ true → x ≡ unpackedBy (reading d) o → x ≡ unpacked d o
+  whole : (x : Unpacked × List ℕ) → length o ≡ 48 → isLength (length d) ≡ true → x ≡ unpackedBy (groupsRead d) o → x ≡ unpacked d o
   unfolding unpacked
   whole x h k e =
       else (not (eqb (length o) 48)) _ _ _ (ap not (eq-eqb (length o) 48 h)) (else (not (isLength (length d))) _ _ _ (ap not k) e)
@@ -40,28 +40,48 @@ is-length-requires : tie.Need-is-length-requires
 is-length-requires c κs = search needs
 
 returns-2 : tie.Need-returns-2
-returns-2 c = other-length (c .before .before .before .before .before .args .frame .now) (now (c .before .before .before .before .before .args .out)) (c .before .before .if1 .left) (sym (c .before .is-length .ensures) ∙ not-true _ (c .if2 .taken))
+returns-2 c =
+    let start = c .before .before .before .before .before in
+    other-length (start .args .frame .now) (now (start .args .out)) (c .before .before .if1 .left) (sym (c .before .is-length .ensures) ∙ not-true _ (c .if2 .taken))
 
 first-is-last-requires : tie.Need-first-is-last-requires
 first-is-last-requires c κs = search needs
 
 first-only-requires : tie.Need-first-only-requires
-first-only-requires c κs = (sym (c .before .before .first-is-last .ensures) ∙ c .before .if3 .taken, length-to _ (sym (c .before .before .before .before .is-length .ensures) ∙ not-false _ (c .before .before .before .if2 .left)), c .before .before .before .before .before .if1 .left)
+first-only-requires c κs =
+    let at-if2 = c .before .before .before in
+    let at-is-length = at-if2 .before in
+    let at-if1 = at-is-length .before in
+    (sym (c .before .before .first-is-last .ensures) ∙ c .before .if3 .taken, length-to _ (sym (at-is-length .is-length .ensures) ∙ not-false _ (at-if2 .if2 .left)), at-if1 .if1 .left)
 
 same-length : tie.Need-same-length
 same-length c = search needs
 
 returns-3 : tie.Need-returns-3
-returns-3 c = whole (c .before .before .before .before .before .before .before .before .before .before .before .args .frame .now) (now (c .before .before .before .before .before .before .before .before .before .before .before .args .out)) _ (c .before .before .before .before .before .before .before .before .if1 .left) (sym (c .before .before .before .before .before .before .before .is-length .ensures) ∙ not-false _ (c .before .before .before .before .before .before .if2 .left)) (c .before .before .first-only .ensures)
+returns-3 c =
+    let at-if2 = c .before .before .before .before .before .before in
+    let at-is-length = at-if2 .before in
+    let at-if1 = at-is-length .before in
+    let start = at-if1 .before .before .before in
+    whole (start .args .frame .now) (now (start .args .out)) _ (at-if1 .if1 .left) (sym (at-is-length .is-length .ensures) ∙ not-false _ (at-if2 .if2 .left)) (c .before .before .first-only .ensures)
 
 fill-requires : tie.Need-fill-requires
-fill-requires c κs = (length-to _ (sym (c .before .before .before .before .is-length .ensures) ∙ not-false _ (c .before .before .before .if2 .left)), c .before .before .before .before .before .if1 .left)
+fill-requires c κs =
+    let at-if2 = c .before .before .before in
+    let at-is-length = at-if2 .before in
+    let at-if1 = at-is-length .before in
+    (length-to _ (sym (at-is-length .is-length .ensures) ∙ not-false _ (at-if2 .if2 .left)), at-if1 .if1 .left)
 
 same-length-2 : tie.Need-same-length-2
 same-length-2 c = search needs
 
 returns-4 : tie.Need-returns-4
-returns-4 c = whole (c .before .before .before .before .before .before .before .before .before .before .before .args .frame .now) (now (c .before .before .before .before .before .before .before .before .before .before .before .args .out)) _ (c .before .before .before .before .before .before .before .before .if1 .left) (sym (c .before .before .before .before .before .before .before .is-length .ensures) ∙ not-false _ (c .before .before .before .before .before .before .if2 .left)) (c .before .before .fill .ensures)
+returns-4 c =
+    let at-if2 = c .before .before .before .before .before .before in
+    let at-is-length = at-if2 .before in
+    let at-if1 = at-is-length .before in
+    let start = at-if1 .before .before .before in
+    whole (start .args .frame .now) (now (start .args .out)) _ (at-if1 .if1 .left) (sym (at-is-length .is-length .ensures) ∙ not-false _ (at-if2 .if2 .left)) (c .before .before .fill .ensures)
 
 pub unpack-spec : {M : Type 1} → statement M
 unpack-spec =

@@ -3,6 +3,7 @@
 
 mod header {
     extern "C" {
+        pub fn dwb_version() -> u32;
         pub fn dwb_least_length(need: usize) -> usize;
         pub fn dwb_open(record: *mut u8, record_bytes: usize, own: u8, limit: u32, reading: u32) -> u8;
         pub fn dwb_frame(
@@ -45,6 +46,13 @@ mod header {
             out_bytes: usize,
         ) -> usize;
     }
+}
+
+/// DWB_VERSION of the header that these declarations are of.
+pub const VERSION: u32 = 1;
+
+pub fn version() -> u32 {
+    unsafe { header::dwb_version() }
 }
 
 pub fn least_length(need: usize) -> usize {

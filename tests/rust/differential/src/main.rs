@@ -32,6 +32,9 @@ fn main() -> ExitCode {
     let start = Instant::now();
     let mut faults = Faults::default();
     let mut whole = Tally::default();
+    if boundary::version() != boundary::VERSION {
+        faults.add(format!("the archive is of version {}", boundary::version()));
+    }
     for (i, kind) in traffic::KINDS.iter().enumerate() {
         let tally = run_kind(kind, i as u64, &mut faults);
         print_tally(kind.name, &tally);

@@ -1,8 +1,9 @@
-use Prim.Native.Nat.{_+_, _-_, _*_, _≤_}
+use Prim.Native.Nat.{_-_, _≤_}
 use mathlib.Core.Path.{_≡_, refl}
 use mathlib.Core.List.{_++_}
 use lib.ListN.{length, take, drop}
 use native.Mathlib.Omega.{arith}
+use Rattle.answer_bytes.specs.Places.{answersLength, answerPlace}
 use Rattle.answer_bytes.specs.Ends.{endsBytes}
 use Rattle.answer_bytes.proofs.Turns.{ends-turn, ends-long, ends-all}
 use borrow.Author.Needs.{needs}
@@ -10,7 +11,11 @@ use Rattle.answer_bytes.proofs.ends.write_ends.Statement.{statement}
 use Rattle.answer_bytes.proofs.ends.write_ends.Tie as tie
 
 abbrev Inv-loop : tie.InvT-loop
-Inv-loop out₀ ends i₀ out i = (length ends ≡ 8) × (length out ≡ 288) × (i ≤ 8) × (take (36 * i) out ++ endsBytes (drop i ends) ≡ endsBytes ends)
+Inv-loop out₀ ends i₀ out i =
+    (length ends ≡ 8)
+    × (length out ≡ answersLength)
+    × (i ≤ 8)
+    × (take (answerPlace i) out ++ endsBytes (drop i ends) ≡ endsBytes ends)
 
 abbrev μ-loop : tie.MeasureT-loop
 μ-loop out₀ ends i₀ out i = 8 - i
@@ -18,23 +23,17 @@ abbrev μ-loop : tie.MeasureT-loop
 loop-holds : tie.Need-loop-holds Inv-loop μ-loop
 loop-holds c = (search needs, search needs, search needs, refl)
 
-mul-end-bytes : tie.Need-mul-end-bytes Inv-loop μ-loop
-mul-end-bytes c = search needs
+mul-put-end : tie.Need-mul-put-end Inv-loop μ-loop
+mul-put-end c = search needs
 
-array-copy-out-end-bytes : tie.Need-array-copy-out-end-bytes Inv-loop μ-loop
-array-copy-out-end-bytes c = search needs
+array-copy-out-put-end : tie.Need-array-copy-out-put-end Inv-loop μ-loop
+array-copy-out-put-end c = search needs
 
-end-bytes-requires : tie.Need-end-bytes-requires Inv-loop μ-loop
-end-bytes-requires c κs = search needs
+mul-put-end-2 : tie.Need-mul-put-end-2 Inv-loop μ-loop
+mul-put-end-2 c = search needs
 
-mul-copy : tie.Need-mul-copy Inv-loop μ-loop
-mul-copy c = search needs
-
-slice-aggregate-copy : tie.Need-slice-aggregate-copy Inv-loop μ-loop
-slice-aggregate-copy c = search needs
-
-copy-requires : tie.Need-copy-requires Inv-loop μ-loop
-copy-requires c κs = search needs
+put-end-requires : tie.Need-put-end-requires Inv-loop μ-loop
+put-end-requires c κs = search needs
 
 add-i : tie.Need-add-i Inv-loop μ-loop
 add-i c = search needs
@@ -44,15 +43,15 @@ loop-less c = search needs
 
 loop-again : tie.Need-loop-again Inv-loop μ-loop
 loop-again c =
-    let a = c .before .before .before .before .before .before .before .before .before .before .args in
-    let at = c .before .before .before .before .before .before .before .before .loop in
-    let e = c .before .before .copy .ensures in
-    let q = c .before .before .before .before .before .end-bytes .ensures in
-    let o = c .before .before .copy .last .0 in (
+    let put = c .before .before in
+    let at = put .before .before .before .before .loop in
+    let a = put .before .before .before .before .before .before .args in
+    let e = put .put-end .ensures in
+    let o = put .put-end .last .1 .0 in (
       search needs,
-      ends-long (a .t1) (at .out) o _ (at .i) _ (at .inv .0) (at .inv .1) (search needs) e q,
+      ends-long (a .t1) (at .out) o (at .i) _ (at .inv .0) (at .inv .1) (search needs) e,
       search needs,
-      ends-turn (a .t1) (at .out) o _ (at .i) _ (at .inv .0) (at .inv .1) (search needs) e q (at .inv .3),
+      ends-turn (a .t1) (at .out) o (at .i) _ (at .inv .0) (at .inv .1) (search needs) e (at .inv .3),
     )
 
 same-length : tie.Need-same-length Inv-loop μ-loop
@@ -70,12 +69,10 @@ write-ends-spec =
     Inv-loop
     μ-loop
     loop-holds
-    mul-end-bytes
-    array-copy-out-end-bytes
-    end-bytes-requires
-    mul-copy
-    slice-aggregate-copy
-    copy-requires
+    mul-put-end
+    array-copy-out-put-end
+    mul-put-end-2
+    put-end-requires
     add-i
     loop-less
     loop-again

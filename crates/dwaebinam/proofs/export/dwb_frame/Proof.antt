@@ -5,6 +5,7 @@ use lib.ListN.{length}
 use denote.Ref.{now}
 use borrow.Author.Tests.{ne-eqb}
 use Rattle.laws.specs.Choice.{then}
+use Rattle.answer_bytes.specs.Places.{answerLength}
 use Rattle.dwaebinam.specs.Calls.{framedIn}
 use Rattle.dwaebinam.proofs.Exports.{framed-put}
 use borrow.Author.Needs.{needs}
@@ -18,7 +19,9 @@ use Rattle.answer.proofs.number.Reads as number-reads
 
 returns : tie.Need-returns
 unfolding framedIn
-returns c = then (not (eqb (length (now (c .before .before .before .before .before .args .answer))) 36)) _ _ _ (ap not (ne-eqb _ _ (c .if1 .taken))) refl
+returns c =
+    let a = now (c .before .before .before .before .before .args .answer) in
+    then (not (eqb (length a) answerLength)) _ _ _ (ap not (ne-eqb _ _ (c .if1 .taken))) refl
 
 take-frame-requires : tie.Need-take-frame-requires
 take-frame-requires c κs = search needs
@@ -39,7 +42,15 @@ same-length-3 : tie.Need-same-length-3
 same-length-3 c = search needs
 
 returns-2 : tie.Need-returns-2
-returns-2 c = framed-put (now (c .before .before .before .before .before .before .before .before .before .before .before .before .before .before .before .before .before .args .buffer)) (c .before .before .before .before .before .before .before .before .before .before .before .before .before .before .before .before .before .args .id) (now (c .before .before .before .before .before .before .before .before .before .before .before .before .before .before .before .before .before .args .bytes)) (now (c .before .before .before .before .before .before .before .before .before .before .before .before .before .before .before .before .before .args .store)) (now (c .before .before .before .before .before .before .before .before .before .before .before .before .before .before .before .before .before .args .answer)) (c .before .before .before .before .before .before .before .before .before .take-frame .result) _ (c .before .before .before .before .before .before .before .before .before .take-frame .last .0) (c .before .before .before .before .before .before .before .before .before .take-frame .last .1 .1 .1 .0) (c .before .before .before .write-answer .last .1 .0) (c .before .before .before .before .before .before .before .before .before .before .before .before .if1 .left) (c .before .before .before .before .before .before .before .before .before .take-frame .ensures) (c .before .before .before .write-answer .ensures) (c .number .ensures)
+returns-2 c =
+    let at-write-answer = c .before .before .before in
+    let at-take-frame = at-write-answer .before .before .before .before .before .before in
+    let at-if1 = at-take-frame .before .before .before in
+    let start = at-if1 .before .before .before .before .before in
+    framed-put (now (start .args .buffer)) (start .args .id) (now (start .args .bytes)) (now (start .args .store)) (now (start .args .answer))
+    (at-take-frame .take-frame .result) _ (at-take-frame .take-frame .last .0) (at-take-frame .take-frame .last .1 .1 .1 .0)
+    (at-write-answer .write-answer .last .1 .0) (at-if1 .if1 .left) (at-take-frame .take-frame .ensures) (at-write-answer .write-answer .ensures)
+    (c .number .ensures)
 
 pub dwb-frame-spec : {M : Type 1} → statement M
 dwb-frame-spec =

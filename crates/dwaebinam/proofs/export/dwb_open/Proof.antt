@@ -39,8 +39,15 @@ same-length c = search needs
 returns-2 : tie.Need-returns-2
 unfolding opened
 returns-2 c =
-    let a = c .before .before .before .before .before .before .before .before .before .args in
-    opened-put (a .own) (a .limit) (a .reading) (now (a .buffer)) (c .before .before .before .write-record .result) (c .before .before .before .before .before .before .«open» .result .receiver) (c .acceptance-number .result) (c .before .before .before .write-record .last .1 .0) (c .before .before .before .before .before .before .before .if1 .left) (ap (λ (x : Opened). x .receiver) (c .before .before .before .before .before .before .«open» .ensures)) (c .before .before .before .write-record .ensures) (c .acceptance-number .ensures ∙ ap (λ (x : Opened). acceptanceNumber (x .answer)) (c .before .before .before .before .before .before .«open» .ensures))
+    let at-write-record = c .before .before .before in
+    let at-before = at-write-record .before .before in
+    let at-if1 = at-before .before .before in
+    let start = at-if1 .before .before in
+    let a = start .args in
+    opened-put (a .own) (a .limit) (a .reading) (now (a .buffer)) (at-write-record .write-record .result)
+    (at-before .before .«open» .result .receiver) (c .acceptance-number .result) (at-write-record .write-record .last .1 .0) (at-if1 .if1 .left)
+    (ap (λ (x : Opened). x .receiver) (at-before .before .«open» .ensures)) (at-write-record .write-record .ensures)
+    (c .acceptance-number .ensures ∙ ap (λ (x : Opened). acceptanceNumber (x .answer)) (at-before .before .«open» .ensures))
 
 pub dwb-open-spec : {M : Type 1} → statement M
 dwb-open-spec =

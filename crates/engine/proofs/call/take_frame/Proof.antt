@@ -1,7 +1,7 @@
 use mathlib.Core.Path.{refl}
 use native.Mathlib.Omega.{arith}
 use denote.Ref.{now}
-use Rattle.multi_pg.specs.Groups.{reading}
+use Rattle.multi_pg.specs.Groups.{groupsRead}
 use Rattle.engine.proofs.Writes.{seen-put}
 use Rattle.engine.proofs.Frames.{not-ready, is-ready, holds, by-verdict, by-groups, seen-same}
 use borrow.Author.Needs.{needs}
@@ -81,21 +81,28 @@ returns-2 c = let a = c .before .before .before .before .before .before .before 
     let g = c .before .before .before .before .before .before .before .if1 .left in
     by-verdict b (a .id) d m t e g (c .before .before .before .before .before .own-of .result) _ _ _ (c .before .before .before .before .before .own-of .ensures .0)
     (c .before .before .before .before .judge .ensures) (c .before .before .route .given .1)
-    (by-groups b m (holds b (a .id) d m t e g (c .before .before .before .before .before .own-of .ensures .1)) _ (reading d) _ (c .groups .ensures))
+    (by-groups b m (holds b (a .id) d m t e g (c .before .before .before .before .before .own-of .ensures .1)) _ (groupsRead d) _ (c .groups .ensures))
 
 same-length-3 : tie.Need-same-length-3
 same-length-3 c = search needs
 
 returns-3 : tie.Need-returns-3
-returns-3 c = let a = c .before .before .before .before .before .before .before .before .before .before .before .before .before .before .before .before .args in
+returns-3 c =
+    let at-route2 = c .before .before .before .before .before in
+    let at-judge = at-route2 .before .before in
+    let at-own-of = at-judge .before in
+    let at-if1 = at-own-of .before .before in
+    let at-is-ready = at-if1 .before in
+    let start = at-is-ready .before .before .before .before .before in
+    let a = start .args in
     let b = now (a .buffer) in
     let d = now (a .bytes) in
     let m = now (a .store) in
-    let t = c .before .before .before .before .before .before .before .before .before .before .before .is-ready .result in
-    let e = c .before .before .before .before .before .before .before .before .before .before .before .is-ready .ensures in
-    let g = c .before .before .before .before .before .before .before .before .before .before .if1 .left in
-    by-verdict b (a .id) d m t e g (c .before .before .before .before .before .before .before .before .own-of .result) _ _ _ (c .before .before .before .before .before .before .before .before .own-of .ensures .0)
-    (c .before .before .before .before .before .before .before .judge .ensures) (c .before .before .before .before .before .route2 .given .1)
+    let t = at-is-ready .is-ready .result in
+    let e = at-is-ready .is-ready .ensures in
+    let g = at-if1 .if1 .left in
+    by-verdict b (a .id) d m t e g (at-own-of .own-of .result) _ _ _ (at-own-of .own-of .ensures .0)
+    (at-judge .judge .ensures) (at-route2 .route2 .given .1)
     (seen-put _ _ _ _ _ (c .before .before .control .ensures) refl)
 
 same-length-4 : tie.Need-same-length-4
@@ -105,17 +112,25 @@ same-length-5 : tie.Need-same-length-5
 same-length-5 c = search needs
 
 returns-4 : tie.Need-returns-4
-returns-4 c = let a = c .before .before .before .before .before .before .before .before .before .before .before .before .before .before .before .before .before .before .before .args in
+returns-4 c =
+    let at-data-frame = c .before .before .before .before in
+    let at-route3 = at-data-frame .before .before .before .before in
+    let at-judge = at-route3 .before .before in
+    let at-own-of = at-judge .before in
+    let at-if1 = at-own-of .before .before in
+    let at-is-ready = at-if1 .before in
+    let start = at-is-ready .before .before .before .before .before in
+    let a = start .args in
     let b = now (a .buffer) in
     let d = now (a .bytes) in
     let m = now (a .store) in
-    let t = c .before .before .before .before .before .before .before .before .before .before .before .before .before .before .is-ready .result in
-    let e = c .before .before .before .before .before .before .before .before .before .before .before .before .before .before .is-ready .ensures in
-    let g = c .before .before .before .before .before .before .before .before .before .before .before .before .before .if1 .left in
-    by-verdict b (a .id) d m t e g (c .before .before .before .before .before .before .before .before .before .before .before .own-of .result) _ _ _
-    (c .before .before .before .before .before .before .before .before .before .before .before .own-of .ensures .0) (c .before .before .before .before .before .before .before .before .before .before .judge .ensures)
-    (c .before .before .before .before .before .before .before .before .route3 .given .1)
-    (c .before .before .before .before .data-frame .ensures)
+    let t = at-is-ready .is-ready .result in
+    let e = at-is-ready .is-ready .ensures in
+    let g = at-if1 .if1 .left in
+    by-verdict b (a .id) d m t e g (at-own-of .own-of .result) _ _ _
+    (at-own-of .own-of .ensures .0) (at-judge .judge .ensures)
+    (at-route3 .route3 .given .1)
+    (at-data-frame .data-frame .ensures)
 
 same-length-6 : tie.Need-same-length-6
 same-length-6 c = search needs

@@ -44,33 +44,48 @@ same-length c = search needs
 
 returns : tie.Need-returns
 unfolding controlStep
-returns c = let a = c .before .before .before .before .before .before .before .before .before .before .before .args in
-    by-case (λ (z : Control). steppedIn (now (a .buffer)) (onControl z (recordAt (now (a .buffer))) (keyOf (a .route) (now (a .bytes))))) _ _ _ _ (c .before .before .before .before .before .before .before .read-control .ensures)
-    (c .before .before .before .before .before .a .given .1) (c .before .before .announce .ensures ∙ ap
-    (λ (k : Key). steppedIn (now (a .buffer)) (announceStep (recordAt (now (a .buffer))) k (c .before .before .before .before .before .a .given .0 .0)))
-    (c .before .before .before .before .before .before .before .before .key-of .ensures))
+returns c =
+    let at-a = c .before .before .before .before .before in
+    let at-read-control = at-a .before .before in
+    let at-key-of = at-read-control .before in
+    let start = at-key-of .before .before .before in
+    let a = start .args in
+    by-case (λ (z : Control). steppedIn (now (a .buffer)) (onControl z (recordAt (now (a .buffer))) (keyOf (a .route) (now (a .bytes))))) _ _ _ _ (at-read-control .read-control .ensures)
+    (at-a .a .given .1) (c .before .before .announce .ensures ∙ ap
+    (λ (k : Key). steppedIn (now (a .buffer)) (announceStep (recordAt (now (a .buffer))) k (at-a .a .given .0 .0)))
+    (at-key-of .key-of .ensures))
 
 same-length-2 : tie.Need-same-length-2
 same-length-2 c = search needs
 
 returns-2 : tie.Need-returns-2
 unfolding controlStep
-returns-2 c = let a = c .before .before .before .before .before .before .before .before .before .before .before .args in
-    by-case (λ (z : Control). steppedIn (now (a .buffer)) (onControl z (recordAt (now (a .buffer))) (keyOf (a .route) (now (a .bytes))))) _ _ _ _ (c .before .before .before .before .before .before .before .read-control .ensures)
-    (c .before .before .before .before .before .st .given .1) (c .before .before .status .ensures ∙ ap
-    (λ (k : Key). steppedIn (now (a .buffer)) (statusStep (recordAt (now (a .buffer))) k (c .before .before .before .before .before .st .given .0 .0)))
-    (c .before .before .before .before .before .before .before .before .key-of .ensures))
+returns-2 c =
+    let at-st = c .before .before .before .before .before in
+    let at-read-control = at-st .before .before in
+    let at-key-of = at-read-control .before in
+    let start = at-key-of .before .before .before in
+    let a = start .args in
+    by-case (λ (z : Control). steppedIn (now (a .buffer)) (onControl z (recordAt (now (a .buffer))) (keyOf (a .route) (now (a .bytes))))) _ _ _ _ (at-read-control .read-control .ensures)
+    (at-st .st .given .1) (c .before .before .status .ensures ∙ ap
+    (λ (k : Key). steppedIn (now (a .buffer)) (statusStep (recordAt (now (a .buffer))) k (at-st .st .given .0 .0)))
+    (at-key-of .key-of .ensures))
 
 same-length-3 : tie.Need-same-length-3
 same-length-3 c = search needs
 
 returns-3 : tie.Need-returns-3
 unfolding controlStep
-returns-3 c = let a = c .before .before .before .before .before .before .before .before .before .before .before .args in
-    by-case (λ (z : Control). steppedIn (now (a .buffer)) (onControl z (recordAt (now (a .buffer))) (keyOf (a .route) (now (a .bytes))))) _ _ _ _ (c .before .before .before .before .before .before .before .read-control .ensures)
-    (c .before .before .before .before .before .pgn .given .1) (c .before .before .abort .ensures ∙ ap
-    (λ (k : Key). steppedIn (now (a .buffer)) (abortStep (recordAt (now (a .buffer))) k (c .before .before .before .before .before .pgn .given .0 .0)))
-    (c .before .before .before .before .before .before .before .before .key-of .ensures))
+returns-3 c =
+    let at-pgn = c .before .before .before .before .before in
+    let at-read-control = at-pgn .before .before in
+    let at-key-of = at-read-control .before in
+    let start = at-key-of .before .before .before in
+    let a = start .args in
+    by-case (λ (z : Control). steppedIn (now (a .buffer)) (onControl z (recordAt (now (a .buffer))) (keyOf (a .route) (now (a .bytes))))) _ _ _ _ (at-read-control .read-control .ensures)
+    (at-pgn .pgn .given .1) (c .before .before .abort .ensures ∙ ap
+    (λ (k : Key). steppedIn (now (a .buffer)) (abortStep (recordAt (now (a .buffer))) k (at-pgn .pgn .given .0 .0)))
+    (at-key-of .key-of .ensures))
 
 returns-4 : tie.Need-returns-4
 unfolding controlStep

@@ -41,15 +41,22 @@ same-length-2 : tie.Need-same-length-2
 same-length-2 c = search needs
 
 returns-2 : tie.Need-returns-2
-returns-2 c = let a = c .before .before .before .before .before .before .before .before .before .before .before .before .before .before .before .args
+returns-2 c =
+    let at-expire-all = c .before .before .before .before .before .before in
+    let at-word-at = at-expire-all .before .before in
+    let at-if1 = at-word-at .before .before in
+    let at-is-ready = at-if1 .before in
+    let at-slice-known = at-is-ready .before .before .before in
+    let start = at-slice-known .before in
+    let a = start .args
     in
-    reading-kept (now (a .buffer)) (a .t) (now (a .store)) (c .before .before .before .before .before .before .before .before .before .before .before .is-ready .result)
-    (c .before .before .before .before .before .before .before .before .before .before .before .is-ready .ensures) (c .before .before .before .before .before .before .before .before .before .before .if1 .left)
+    reading-kept (now (a .buffer)) (a .t) (now (a .store)) (at-is-ready .is-ready .result)
+    (at-is-ready .is-ready .ensures) (at-if1 .if1 .left)
     (λ i. omega
-    (arith, c .before .before .before .before .before .before .before .before .before .before .before .before .before .before .slice-known .given i))
-    (c .before .before .before .before .before .before .before .before .word-at .result) (c .before .before .before .before .before .before .expire-all .result)
-    (c .before .before .before .before .before .before .expire-all .last .0) (c .before .before .put-last .last .0) (c .before .before .before .before .before .before .before .before .word-at .ensures)
-    (c .before .before .before .before .before .before .expire-all .ensures) (c .before .before .put-last .ensures)
+    (arith, at-slice-known .slice-known .given i))
+    (at-word-at .word-at .result) (at-expire-all .expire-all .result)
+    (at-expire-all .expire-all .last .0) (c .before .before .put-last .last .0) (at-word-at .word-at .ensures)
+    (at-expire-all .expire-all .ensures) (c .before .before .put-last .ensures)
 
 pub take-reading-spec : {M : Type 1} → statement M
 take-reading-spec =

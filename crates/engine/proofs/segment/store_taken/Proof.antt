@@ -15,10 +15,14 @@ enum-known-x : tie.Need-enum-known-x
 enum-known-x c = search needs
 
 store-due-requires : tie.Need-store-due-requires
-store-due-requires c κs = let a = c .before .before .before .before .before .before .before .before .before .before .before .args in
-    let p = c .before .before .before .before .before .before .before .before .before .before .before .pre in (
-      within _ _ _ (p .0) (c .before .before .before .before .before .f .given .1),
-      placed-of (a .change) (a .f) (a .x) (a .n .0) (now (a .bytes)) (now (a .store)) _ (c .before .before .before .before .before .before .before .enum-told .given .1) _ (c .before .before .x .given .1) (p .1),
+store-due-requires c κs =
+    let at-f = c .before .before .before .before .before in
+    let at-enum-told = at-f .before .before in
+    let start = at-enum-told .before .before .before .before in
+    let a = start .args in
+    let p = start .pre in (
+      within _ _ _ (p .0) (at-f .f .given .1),
+      placed-of (a .change) (a .f) (a .x) (a .n .0) (now (a .bytes)) (now (a .store)) _ (at-enum-told .enum-told .given .1) _ (c .before .before .x .given .1) (p .1),
       p .2,
     )
 

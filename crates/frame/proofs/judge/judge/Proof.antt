@@ -36,9 +36,13 @@ route-taken-requires c κs = search needs
 returns-3 : tie.Need-returns-3
 unfolding judged
 returns-3 c =
-    else _ _ _ _ (lt-leb _ _ (c .before .before .before .before .before .if1 .left))
-    (else _ _ _ _ (ap not (sym (c .before .before .before .before .is-length .ensures)) ∙ c .before .before .before .if2 .left)
-    (then _ _ _ _ (ap not (sym (c .before .route-taken .ensures ∙ ap (routeTaken (c .before .before .before .before .before .before .args .own)) (c .before .before .read .ensures))) ∙ c .if3 .taken) refl))
+    let at-if2 = c .before .before .before in
+    let at-is-length = at-if2 .before in
+    let at-if1 = at-is-length .before in
+    let start = at-if1 .before in
+    else _ _ _ _ (lt-leb _ _ (at-if1 .if1 .left))
+    (else _ _ _ _ (ap not (sym (at-is-length .is-length .ensures)) ∙ at-if2 .if2 .left)
+    (then _ _ _ _ (ap not (sym (c .before .route-taken .ensures ∙ ap (routeTaken (start .args .own)) (c .before .before .read .ensures))) ∙ c .if3 .taken) refl))
 
 by-format-requires : tie.Need-by-format-requires
 by-format-requires c κs = search needs
@@ -46,10 +50,16 @@ by-format-requires c κs = search needs
 returns-4 : tie.Need-returns-4
 unfolding judged
 returns-4 c =
-    else _ _ _ _ (lt-leb _ _ (c .before .before .before .before .before .before .before .if1 .left))
-    (else _ _ _ _ (ap not (sym (c .before .before .before .before .before .before .is-length .ensures)) ∙ c .before .before .before .before .before .if2 .left)
-    (else _ _ _ _ (ap not (sym (c .before .before .before .route-taken .ensures ∙ ap (routeTaken (c .before .before .before .before .before .before .before .before .args .own)) (c .before .before .before .before .read .ensures))) ∙ c .before .before .if3 .left)
-    (c .by-format .ensures ∙ ap (λ (f : Identifier). byFormat (f .pf) (routeOf f)) (c .before .before .before .before .read .ensures))))
+    let at-route-taken = c .before .before .before in
+    let at-read = at-route-taken .before in
+    let at-if2 = at-read .before in
+    let at-is-length = at-if2 .before in
+    let at-if1 = at-is-length .before in
+    let start = at-if1 .before in
+    else _ _ _ _ (lt-leb _ _ (at-if1 .if1 .left))
+    (else _ _ _ _ (ap not (sym (at-is-length .is-length .ensures)) ∙ at-if2 .if2 .left)
+    (else _ _ _ _ (ap not (sym (at-route-taken .route-taken .ensures ∙ ap (routeTaken (start .args .own)) (at-read .read .ensures))) ∙ c .before .before .if3 .left)
+    (c .by-format .ensures ∙ ap (λ (f : Identifier). byFormat (f .pf) (routeOf f)) (at-read .read .ensures))))
 
 pub judge-spec : {M : Type 1} → statement M
 judge-spec =

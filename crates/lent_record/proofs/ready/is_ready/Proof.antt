@@ -52,12 +52,16 @@ slots-ready-requires c κs = search needs
 
 returns-4 : tie.Need-returns-4
 returns-4 c =
-    let a = c .before .before .before .before .before .before .before .before .args in
+    let at-word-at = c .before .before .before in
+    let at-if2 = at-word-at .before .before in
+    let at-if1 = at-if2 .before in
+    let start = at-if1 .before .before in
+    let a = start .args in
     let b = now (a .bytes) in
     let own : Address = recordAt b .own in
-    and-next (eqb (length (now (a .bytes))) recordLength) _ _ (eq-eqb _ _ (c .before .before .before .before .before .before .if1 .left))
-    (and-next (eqb (a .store) 32768) _ _ (eq-eqb _ _ (c .before .before .before .before .before .if2 .left))
-    (and-next _ _ _ (ap (openingOk own) (sym (c .before .before .before .word-at .ensures)) ∙ sym (c .before .before .opening-ok .ensures) ∙ not-false _ (c .before .if3 .left)) (c .slots-ready .ensures)))
+    and-next (eqb (length (now (a .bytes))) recordLength) _ _ (eq-eqb _ _ (at-if1 .if1 .left))
+    (and-next (eqb (a .store) 32768) _ _ (eq-eqb _ _ (at-if2 .if2 .left))
+    (and-next _ _ _ (ap (openingOk own) (sym (at-word-at .word-at .ensures)) ∙ sym (c .before .before .opening-ok .ensures) ∙ not-false _ (c .before .if3 .left)) (c .slots-ready .ensures)))
     ∙ sym (ready-in (now (a .bytes)) (a .store))
 
 pub is-ready-spec : {M : Type 1} → statement M

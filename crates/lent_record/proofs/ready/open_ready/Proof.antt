@@ -68,11 +68,16 @@ any-holds-requires c κs = search needs
 
 returns-3 : tie.Need-returns-3
 returns-3 c =
-    let a = c .before .before .before .before .before .before .before .before .before .before .args in
+    let at-session-at = c .before .before .before in
+    let at-if1 = at-session-at .before .before in
+    let at-codes-ok = at-if1 .before in
+    let start = at-codes-ok .before .before .before .before in
+    let a = start .args in
     let k : ℕ = slotPlace (a .i) in
     let e : k + slotLength - k ≡ slotLength = omega arith in
-    no-twin (a .own) (now (a .bytes)) (a .i) (search needs) _ (c .before .before .before .before .before .before .codes-ok .ensures) (not-false _ (c .before .before .before .before .before .if1 .left)) _ _
-    (c .before .before .before .session-at .ensures ∙ ap (λ (n : ℕ). sessionAt (take n (drop k (now (a .bytes))))) e) (c .before .before .session-ok .ensures) (not-false _ (c .before .if2 .left)) _ (c .any-holds .ensures)
+    no-twin (a .own) (now (a .bytes)) (a .i) (search needs) _ (at-codes-ok .codes-ok .ensures) (not-false _ (at-if1 .if1 .left)) _ _
+    (at-session-at .session-at .ensures ∙ ap (λ (n : ℕ). sessionAt (take n (drop k (now (a .bytes))))) e) (c .before .before .session-ok .ensures)
+    (not-false _ (c .before .if2 .left)) _ (c .any-holds .ensures)
 
 pub open-ready-spec : {M : Type 1} → statement M
 open-ready-spec =

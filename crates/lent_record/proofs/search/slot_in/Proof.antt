@@ -37,7 +37,11 @@ slot-at-requires : tie.Need-slot-at-requires
 slot-at-requires c κs = search needs
 
 returns : tie.Need-returns
-returns c = let b = now (c .before .before .before .args .bytes) in let i : ℕ = c .before .before .before .args .i in let k : ℕ = slotPlace i in let e : k + slotLength - k ≡ slotLength = omega arith in c .slot-at .ensures ∙ ap (λ (n : ℕ). slotAt (take n (drop k b))) e ∙ ap slotAt (sym (piece-of b i (c .before .before .before .pre .1))) ∙ sym (slot-of b i)
+returns c =
+    let start = c .before .before .before in
+    let b = now (start .args .bytes) in let i : ℕ = start .args .i in let k : ℕ = slotPlace i in let e : k + slotLength - k
+    ≡ slotLength = omega arith in c .slot-at .ensures ∙ ap (λ (n : ℕ). slotAt (take n (drop k b))) e ∙ ap slotAt (sym (piece-of b i (start .pre .1)))
+    ∙ sym (slot-of b i)
 
 pub slot-in-spec : {M : Type 1} → statement M
 slot-in-spec =

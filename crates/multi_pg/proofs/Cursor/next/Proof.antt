@@ -67,17 +67,30 @@ is-plain-requires : tie.Need-is-plain-requires
 is-plain-requires c κs = search needs
 
 returns-3 : tie.Need-returns-3
-returns-3 c = refused (c .before .before .before .before .before .before .before .before .before .before .args .frame .now) (c .before .before .before .before .before .before .before .before .before .before .args .self .at) (c .before .before .before .pgn-of .result) (c .before .is-plain .result) (c .before .is-plain .ensures) (c .before .before .before .pgn-of .ensures) (c .if3 .taken)
+returns-3 c =
+    let at-pgn-of = c .before .before .before in
+    let start = at-pgn-of .before .before .before .before .before .before .before in
+    refused (start .args .frame .now) (start .args .self .at) (at-pgn-of .pgn-of .result) (c .before .is-plain .result) (c .before .is-plain .ensures) (at-pgn-of .pgn-of .ensures) (c .if3 .taken)
 
 add-start : tie.Need-add-start
 add-start c = search needs
 
 add-end : tie.Need-add-end
-add-end c = let p = stands (c .before .before .before .before .before .before .before .before .before .before .args .frame .now) (c .before .before .before .before .before .before .before .before .before .before .args .self .at) (c .before .before .before .pgn-of .result) (c .before .is-plain .result) (c .before .is-plain .ensures) (c .before .before .before .pgn-of .ensures) (c .before .before .before .before .before .before .before .if2 .left) (c .if3 .left) in omega (arith, p .whole)
+add-end c =
+    let at-pgn-of = c .before .before .before in
+    let at-if2 = at-pgn-of .before .before .before .before in
+    let start = at-if2 .before .before .before in
+    let p = stands (start .args .frame .now) (start .args .self .at) (at-pgn-of .pgn-of .result) (c .before .is-plain .result)
+    (c .before .is-plain .ensures) (at-pgn-of .pgn-of .ensures) (at-if2 .if2 .left) (c .if3 .left) in omega (arith, p .whole)
 
 returns-4 : tie.Need-returns-4
-returns-4 c = let p = stands (c .before .before .before .before .before .before .before .before .before .before .args .frame .now) (c .before .before .before .before .before .before .before .before .before .before .args .self .at) (c .before .before .before .pgn-of .result) (c .before .is-plain .result) (c .before .is-plain .ensures) (c .before .before .before .pgn-of .ensures) (c .before .before .before .before .before .before .before .if2 .left) (c .if3 .left) in
-    given (c .before .before .before .before .before .before .before .before .before .before .args .frame .now) (c .before .before .before .before .before .before .before .before .before .before .args .self .at) (c .before .before .before .pgn-of .result) (c .before .is-plain .result) (c .before .is-plain .ensures) (c .before .before .before .pgn-of .ensures) p
+returns-4 c =
+    let at-pgn-of = c .before .before .before in
+    let at-if2 = at-pgn-of .before .before .before .before in
+    let start = at-if2 .before .before .before in
+    let p = stands (start .args .frame .now) (start .args .self .at) (at-pgn-of .pgn-of .result) (c .before .is-plain .result)
+    (c .before .is-plain .ensures) (at-pgn-of .pgn-of .ensures) (at-if2 .if2 .left) (c .if3 .left) in
+    given (start .args .frame .now) (start .args .self .at) (at-pgn-of .pgn-of .result) (c .before .is-plain .result) (c .before .is-plain .ensures) (at-pgn-of .pgn-of .ensures) p
 
 pub next-spec : {M : Type 1} → statement M
 next-spec =

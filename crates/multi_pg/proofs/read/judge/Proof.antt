@@ -2,14 +2,14 @@ use Prim.Native.Nat.{_-_}
 use mathlib.Core.Path.{_≡_, sym, ap, _∙_}
 use lib.ListN.{length}
 use native.Mathlib.Omega.{arith}
-use Rattle.multi_pg.specs.Groups.{judgementOf, reading}
+use Rattle.multi_pg.specs.Groups.{judgementOf, groupsRead}
 use Rattle.multi_pg.specs.Places.{readOn, read-all, read-end, read-fault, step-room, judged-on}
 use borrow.Author.Needs.{needs}
 use Rattle.multi_pg.proofs.read.judge.Statement.{statement}
 use Rattle.multi_pg.proofs.read.judge.Tie as tie
 
 abbrev Inv-loop : tie.InvT-loop
-Inv-loop frame at₀ at = judgementOf (readOn frame at) ≡ judgementOf (reading frame)
+Inv-loop frame at₀ at = judgementOf (readOn frame at) ≡ judgementOf (groupsRead frame)
 
 abbrev μ-loop : tie.MeasureT-loop
 μ-loop frame at₀ at = length frame - at
@@ -24,13 +24,25 @@ enum-known-g : tie.Need-enum-known-g Inv-loop μ-loop
 enum-known-g c = search needs
 
 add-at : tie.Need-add-at Inv-loop μ-loop
-add-at c = omega (arith, step-room (c .before .before .before .before .before .before .before .args .frame .now) (c .before .before .before .before .before .loop .at) (c .before .before .g .given .0 .0) (sym (c .before .before .before .before .step .ensures) ∙ c .before .before .g .given .1))
+add-at c =
+    let at-step = c .before .before .before .before in
+    let at-loop = at-step .before in
+    let start = at-loop .before .before in
+    omega (arith, step-room (start .args .frame .now) (at-loop .loop .at) (c .before .before .g .given .0 .0) (sym (at-step .step .ensures) ∙ c .before .before .g .given .1))
 
 loop-less : tie.Need-loop-less Inv-loop μ-loop
-loop-less c = omega (arith, step-room (c .before .before .before .before .before .before .before .args .frame .now) (c .before .before .before .before .before .loop .at) (c .before .before .g .given .0 .0) (sym (c .before .before .before .before .step .ensures) ∙ c .before .before .g .given .1))
+loop-less c =
+    let at-step = c .before .before .before .before in
+    let at-loop = at-step .before in
+    let start = at-loop .before .before in
+    omega (arith, step-room (start .args .frame .now) (at-loop .loop .at) (c .before .before .g .given .0 .0) (sym (at-step .step .ensures) ∙ c .before .before .g .given .1))
 
 loop-again : tie.Need-loop-again Inv-loop μ-loop
-loop-again c = sym (judged-on (c .before .before .before .before .before .before .before .args .frame .now) (c .before .before .before .before .before .loop .at) (c .before .before .g .given .0 .0) (sym (c .before .before .before .before .step .ensures) ∙ c .before .before .g .given .1)) ∙ c .before .before .before .before .before .loop .inv
+loop-again c =
+    let at-step = c .before .before .before .before in
+    let at-loop = at-step .before in
+    let start = at-loop .before .before in
+    sym (judged-on (start .args .frame .now) (at-loop .loop .at) (c .before .before .g .given .0 .0) (sym (at-step .step .ensures) ∙ c .before .before .g .given .1)) ∙ at-loop .loop .inv
 
 enum-told : tie.Need-enum-told Inv-loop μ-loop
 enum-told c = search needs

@@ -43,7 +43,10 @@ is-pgn-requires : tie.Need-is-pgn-requires Inv-loop μ-loop
 is-pgn-requires c κs = search needs
 
 returns : tie.Need-returns Inv-loop μ-loop
-returns c = failed (now (c .before .before .before .before .before .before .args .pgns)) (c .before .before .before .before .loop .i) (omega arith) (c .before .before .before .before .loop .inv .1) (sym (c .before .is-pgn .ensures) ∙ not-true _ (c .if1 .taken))
+returns c =
+    let at-loop = c .before .before .before .before in
+    let start = at-loop .before .before in
+    failed (now (start .args .pgns)) (at-loop .loop .i) (omega arith) (at-loop .loop .inv .1) (sym (c .before .is-pgn .ensures) ∙ not-true _ (c .if1 .taken))
 
 add-i : tie.Need-add-i Inv-loop μ-loop
 add-i c = search needs
@@ -52,7 +55,10 @@ loop-less : tie.Need-loop-less Inv-loop μ-loop
 loop-less c = search needs
 
 loop-again : tie.Need-loop-again Inv-loop μ-loop
-loop-again c = (search needs, passed (now (c .before .before .before .before .before .before .args .pgns)) (c .before .before .before .before .loop .i) (omega arith) (c .before .before .before .before .loop .inv .1) (sym (c .before .is-pgn .ensures) ∙ not-false _ (c .if1 .left)))
+loop-again c =
+    let at-loop = c .before .before .before .before in
+    let start = at-loop .before .before in
+    (search needs, passed (now (start .args .pgns)) (at-loop .loop .i) (omega arith) (at-loop .loop .inv .1) (sym (c .before .is-pgn .ensures) ∙ not-false _ (c .if1 .left)))
 
 returns-2 : tie.Need-returns-2 Inv-loop μ-loop
 returns-2 c = sym (end pgnsOk (now (c .before .before .before .args .pgns)) (c .before .loop .i) (omega arith)) ∙ c .before .loop .inv .1

@@ -49,7 +49,10 @@ add-total-2 : tie.Need-add-total-2 Inv-loop μ-loop
 add-total-2 c = search needs
 
 returns : tie.Need-returns Inv-loop μ-loop
-returns c = over (now (c .before .before .before .before .before .before .args .lengths)) (c .before .before .before .before .loop .i) (c .before .before .before .before .loop .total) (omega arith) (c .before .before .before .before .loop .inv .1) (c .before .size .result) (c .before .size .ensures .0) (c .if1 .taken)
+returns c =
+    let at-loop = c .before .before .before .before in
+    let start = at-loop .before .before in
+    over (now (start .args .lengths)) (at-loop .loop .i) (at-loop .loop .total) (omega arith) (at-loop .loop .inv .1) (c .before .size .result) (c .before .size .ensures .0) (c .if1 .taken)
 
 add-i : tie.Need-add-i Inv-loop μ-loop
 add-i c = search needs
@@ -58,7 +61,14 @@ loop-less : tie.Need-loop-less Inv-loop μ-loop
 loop-less c = search needs
 
 loop-again : tie.Need-loop-again Inv-loop μ-loop
-loop-again c = (search needs, counted (now (c .before .before .before .before .before .before .args .lengths)) (c .before .before .before .before .loop .i) (c .before .before .before .before .loop .total) (omega arith) (c .before .before .before .before .loop .inv .1) (c .before .size .result) (c .before .size .ensures .0), search needs)
+loop-again c =
+    let at-loop = c .before .before .before .before in
+    let start = at-loop .before .before in (
+      search needs,
+      counted (now (start .args .lengths)) (at-loop .loop .i) (at-loop .loop .total) (omega arith) (at-loop .loop .inv .1)
+          (c .before .size .result) (c .before .size .ensures .0),
+      search needs,
+    )
 
 returns-2 : tie.Need-returns-2 Inv-loop μ-loop
 returns-2 c = whole (now (c .before .before .before .args .lengths)) (c .before .loop .i) (c .before .loop .total) (omega arith) (c .before .loop .inv .1) (c .before .loop .inv .2)

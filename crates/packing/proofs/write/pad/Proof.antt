@@ -35,8 +35,15 @@ loop-less : tie.Need-loop-less Inv-loop μ-loop
 loop-less c = search needs
 
 loop-again : tie.Need-loop-again Inv-loop μ-loop
-loop-again c = let a = c .before .before .before .before .args in
-    (pad-turn (c .before .before .loop .out) (now (a .out)) (a .at) (a .gap) (c .before .before .loop .j) (c .pad-byte .result) (c .before .before .loop .inv .0) (omega arith) (omega arith) (c .pad-byte .ensures), search needs, simp length-set (c .before .before .loop .inv .2))
+loop-again c =
+    let start = c .before .before .before .before in
+    let a = start .args in (
+      pad-turn (c .before .before .loop .out) (now (a .out)) (a .at) (a .gap) (c .before .before .loop .j) (c .pad-byte .result)
+          (c .before .before .loop .inv .0) (omega arith) (omega arith) (c .pad-byte .ensures),
+      search needs,
+      simp length-set
+          (c .before .before .loop .inv .2),
+    )
 
 same-length : tie.Need-same-length Inv-loop μ-loop
 same-length c = search needs

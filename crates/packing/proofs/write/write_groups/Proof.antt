@@ -15,7 +15,9 @@ abbrev μ-loop : tie.MeasureT-loop
 μ-loop pgns lengths «data» out₀ i₀ at₀ from₀ out i at from = length pgns - i
 
 loop-holds : tie.Need-loop-holds Inv-loop μ-loop
-loop-holds c = written-none (now (c .before .before .before .before .args .pgns)) (now (c .before .before .before .before .args .lengths)) (now (c .before .before .before .before .args .«data»)) (now (c .before .before .before .before .args .out))
+loop-holds c =
+    let start = c .before .before .before .before in
+    written-none (now (start .args .pgns)) (now (start .args .lengths)) (now (start .args .«data»)) (now (start .args .out))
 
 shared-slice-read-size : tie.Need-shared-slice-read-size Inv-loop μ-loop
 shared-slice-read-size c = search needs
@@ -39,7 +41,13 @@ slice-aggregate-copy : tie.Need-slice-aggregate-copy Inv-loop μ-loop
 slice-aggregate-copy c = search needs
 
 copy-requires : tie.Need-copy-requires Inv-loop μ-loop
-copy-requires c κs = let r = group-room (now (c .before .before .before .before .before .before .before .before .before .before .before .before .before .args .pgns)) (now (c .before .before .before .before .before .before .before .before .before .before .before .before .before .args .lengths)) (now (c .before .before .before .before .before .before .before .before .before .before .before .before .before .args .«data»)) (now (c .before .before .before .before .before .before .before .before .before .before .before .before .before .args .out)) (c .before .before .before .before .before .before .before .before .loop .out) (c .before .before .before .before .before .before .before .before .loop .i) (c .before .before .before .before .before .before .before .before .loop .at) (c .before .before .before .before .before .before .before .before .loop .from) (c .before .before .before .before .before .before .before .before .before .before .before .before .before .pre .0) (c .before .before .before .before .before .before .before .before .before .before .before .before .before .pre .1) (c .before .before .before .before .before .before .before .before .before .before .before .before .before .pre .2) (c .before .before .before .before .before .before .before .before .loop .inv) (c .before .before .before .before .before .before .before .loop-test .taken) in
+copy-requires c κs =
+    let at-loop-test = c .before .before .before .before .before .before .before in
+    let at-loop = at-loop-test .before in
+    let start = at-loop .before .before .before .before .before in
+    let r = group-room (now (start .args .pgns)) (now (start .args .lengths)) (now (start .args .«data»)) (now (start .args .out))
+    (at-loop .loop .out) (at-loop .loop .i) (at-loop .loop .at) (at-loop .loop .from) (start .pre .0) (start .pre .1) (start .pre .2)
+    (at-loop .loop .inv) (at-loop-test .loop-test .taken) in
     let h : length (c .before .before .header .result) ≡ 4 = ap length (c .before .before .header .ensures) in
     (omega arith, omega arith)
 
@@ -47,8 +55,35 @@ add-copy : tie.Need-add-copy Inv-loop μ-loop
 add-copy c = search needs
 
 copy-requires-2 : tie.Need-copy-requires-2 Inv-loop μ-loop
-copy-requires-2 c κs = let r = group-room (now (c .before .before .before .before .before .before .before .before .before .before .before .before .before .before .before .before .before .args .pgns)) (now (c .before .before .before .before .before .before .before .before .before .before .before .before .before .before .before .before .before .args .lengths)) (now (c .before .before .before .before .before .before .before .before .before .before .before .before .before .before .before .before .before .args .«data»)) (now (c .before .before .before .before .before .before .before .before .before .before .before .before .before .before .before .before .before .args .out)) (c .before .before .before .before .before .before .before .before .before .before .before .before .loop .out) (c .before .before .before .before .before .before .before .before .before .before .before .before .loop .i) (c .before .before .before .before .before .before .before .before .before .before .before .before .loop .at) (c .before .before .before .before .before .before .before .before .before .before .before .before .loop .from) (c .before .before .before .before .before .before .before .before .before .before .before .before .before .before .before .before .before .pre .0) (c .before .before .before .before .before .before .before .before .before .before .before .before .before .before .before .before .before .pre .1) (c .before .before .before .before .before .before .before .before .before .before .before .before .before .before .before .before .before .pre .2) (c .before .before .before .before .before .before .before .before .before .before .before .before .loop .inv) (c .before .before .before .before .before .before .before .before .before .before .before .loop-test .taken) in
-    let f = data-room (now (c .before .before .before .before .before .before .before .before .before .before .before .before .before .before .before .before .before .args .pgns)) (now (c .before .before .before .before .before .before .before .before .before .before .before .before .before .before .before .before .before .args .lengths)) (now (c .before .before .before .before .before .before .before .before .before .before .before .before .before .before .before .before .before .args .«data»)) (now (c .before .before .before .before .before .before .before .before .before .before .before .before .before .before .before .before .before .args .out)) (c .before .before .before .before .before .before .before .before .before .before .before .before .loop .out) (c .before .before .before .before .before .before .before .before .before .before .before .before .loop .i) (c .before .before .before .before .before .before .before .before .before .before .before .before .loop .at) (c .before .before .before .before .before .before .before .before .before .before .before .before .loop .from) (c .before .before .before .before .before .before .before .before .before .before .before .before .before .before .before .before .before .pre .0) (c .before .before .before .before .before .before .before .before .before .before .before .before .before .before .before .before .before .pre .1) (c .before .before .before .before .before .before .before .before .before .before .before .before .before .before .before .before .before .pre .2) (c .before .before .before .before .before .before .before .before .before .before .before .before .loop .inv) (c .before .before .before .before .before .before .before .before .before .before .before .loop-test .taken) in
+copy-requires-2 c κs =
+    let r = group-room
+    (now (c .before .before .before .before .before .before .before .before .before .before .before .before .before .before .before .before .before .args .pgns))
+    (now (c .before .before .before .before .before .before .before .before .before .before .before .before .before .before .before .before .before .args .lengths))
+    (now (c .before .before .before .before .before .before .before .before .before .before .before .before .before .before .before .before .before .args .«data»))
+    (now (c .before .before .before .before .before .before .before .before .before .before .before .before .before .before .before .before .before .args .out))
+    (c .before .before .before .before .before .before .before .before .before .before .before .before .loop .out)
+    (c .before .before .before .before .before .before .before .before .before .before .before .before .loop .i)
+    (c .before .before .before .before .before .before .before .before .before .before .before .before .loop .at)
+    (c .before .before .before .before .before .before .before .before .before .before .before .before .loop .from)
+    (c .before .before .before .before .before .before .before .before .before .before .before .before .before .before .before .before .before .pre .0)
+    (c .before .before .before .before .before .before .before .before .before .before .before .before .before .before .before .before .before .pre .1)
+    (c .before .before .before .before .before .before .before .before .before .before .before .before .before .before .before .before .before .pre .2)
+    (c .before .before .before .before .before .before .before .before .before .before .before .before .loop .inv)
+    (c .before .before .before .before .before .before .before .before .before .before .before .loop-test .taken) in
+    let f = data-room
+    (now (c .before .before .before .before .before .before .before .before .before .before .before .before .before .before .before .before .before .args .pgns))
+    (now (c .before .before .before .before .before .before .before .before .before .before .before .before .before .before .before .before .before .args .lengths))
+    (now (c .before .before .before .before .before .before .before .before .before .before .before .before .before .before .before .before .before .args .«data»))
+    (now (c .before .before .before .before .before .before .before .before .before .before .before .before .before .before .before .before .before .args .out))
+    (c .before .before .before .before .before .before .before .before .before .before .before .before .loop .out)
+    (c .before .before .before .before .before .before .before .before .before .before .before .before .loop .i)
+    (c .before .before .before .before .before .before .before .before .before .before .before .before .loop .at)
+    (c .before .before .before .before .before .before .before .before .before .before .before .before .loop .from)
+    (c .before .before .before .before .before .before .before .before .before .before .before .before .before .before .before .before .before .pre .0)
+    (c .before .before .before .before .before .before .before .before .before .before .before .before .before .before .before .before .before .pre .1)
+    (c .before .before .before .before .before .before .before .before .before .before .before .before .before .before .before .before .before .pre .2)
+    (c .before .before .before .before .before .before .before .before .before .before .before .before .loop .inv)
+    (c .before .before .before .before .before .before .before .before .before .before .before .loop-test .taken) in
     (omega (arith, c .before .before .before .copy .kept .0), omega arith)
 
 add-at : tie.Need-add-at Inv-loop μ-loop
@@ -67,14 +102,27 @@ loop-less : tie.Need-loop-less Inv-loop μ-loop
 loop-less c = search needs
 
 loop-again : tie.Need-loop-again Inv-loop μ-loop
-loop-again c = groups-turn (now (c .before .before .before .before .before .before .before .before .before .before .before .before .before .before .before .before .before .before .before .before .args .pgns)) (now (c .before .before .before .before .before .before .before .before .before .before .before .before .before .before .before .before .before .before .before .before .args .lengths)) (now (c .before .before .before .before .before .before .before .before .before .before .before .before .before .before .before .before .before .before .before .before .args .«data»)) (now (c .before .before .before .before .before .before .before .before .before .before .before .before .before .before .before .before .before .before .before .before .args .out)) (c .before .before .before .before .before .before .before .before .before .before .before .before .before .before .before .loop .out) (c .before .before .before .before .before .before .before .before .before .before .before .before .before .before .before .loop .i) (c .before .before .before .before .before .before .before .before .before .before .before .before .before .before .before .loop .at) (c .before .before .before .before .before .before .before .before .before .before .before .before .before .before .before .loop .from) (c .before .before .before .before .before .before .before .before .before .before .before .before .before .before .before .before .before .before .before .before .pre .0) (c .before .before .before .before .before .before .before .before .before .before .before .before .before .before .before .before .before .before .before .before .pre .1) (c .before .before .before .before .before .before .before .before .before .before .before .before .before .before .before .before .before .before .before .before .pre .2) (c .before .before .before .before .before .before .before .before .before .before .before .before .before .before .before .loop .inv) (c .before .before .before .before .before .before .before .before .before .before .before .before .before .before .loop-test .taken)
-    (c .before .before .copy2 .last .0) (c .before .before .before .before .before .before .copy .last .0) (c .before .before .before .before .before .before .before .before .before .header .result) (c .before .before .before .before .before .before .before .before .before .before .before .before .size .result) (c .before .before .before .before .before .before .before .before .before .before .before .before .size .ensures .0) (c .before .before .before .before .before .before .before .before .before .header .ensures) (c .before .before .before .before .before .before .copy .ensures) (c .before .before .copy2 .ensures)
+loop-again c =
+    let at-copy = c .before .before .before .before .before .before in
+    let at-header = at-copy .before .before .before in
+    let at-size = at-header .before .before .before in
+    let at-loop-test = at-size .before .before in
+    let at-loop = at-loop-test .before in
+    let start = at-loop .before .before .before .before .before in
+    groups-turn (now (start .args .pgns)) (now (start .args .lengths)) (now (start .args .«data»)) (now (start .args .out)) (at-loop .loop .out)
+    (at-loop .loop .i) (at-loop .loop .at) (at-loop .loop .from) (start .pre .0) (start .pre .1) (start .pre .2) (at-loop .loop .inv)
+    (at-loop-test .loop-test .taken)
+    (c .before .before .copy2 .last .0) (at-copy .copy .last .0) (at-header .header .result) (at-size .size .result) (at-size .size .ensures .0)
+    (at-header .header .ensures) (at-copy .copy .ensures) (c .before .before .copy2 .ensures)
 
 same-length : tie.Need-same-length Inv-loop μ-loop
 same-length c = search needs
 
 returns : tie.Need-returns Inv-loop μ-loop
-returns c = written-all (now (c .before .before .before .before .before .before .args .pgns)) (now (c .before .before .before .before .before .before .args .lengths)) (now (c .before .before .before .before .before .before .args .«data»)) (now (c .before .before .before .before .before .before .args .out)) (c .before .loop .out) (c .before .loop .i) (c .before .loop .at) (c .before .loop .from) (c .before .before .before .before .before .before .pre .0) (c .before .loop .inv) (c .loop-test .left)
+returns c =
+    let start = c .before .before .before .before .before .before in
+    written-all (now (start .args .pgns)) (now (start .args .lengths)) (now (start .args .«data»)) (now (start .args .out)) (c .before .loop .out)
+    (c .before .loop .i) (c .before .loop .at) (c .before .loop .from) (start .pre .0) (c .before .loop .inv) (c .loop-test .left)
 
 pub write-groups-spec : {M : Type 1} → statement M
 write-groups-spec =

@@ -108,7 +108,9 @@ module _ {M : Type 1} (𝓤 : URA M) (H : Heap 𝓤) (A : Atoms 𝓤) (W : Given
   exits r e =
       qed W (‵ (P.the-row .own r (progress r ∷ [])) ∷ []) ∵
       suffices ! _ (ends-at 𝓤 H A brought.ended stayed (brought.clauses 𝓤 H A at-mem run) W ((tt, tt, tt, x, at), tt) (progress r) r (tt, (tt, (tt, (tt, tt)))) (tt, (tt, (tt, (tt, tt))))) $ says ! e $
-      nothing ! $ owned ! u32 (Is u32) (uint-makes 𝓤 H A W w32) m _ is-m $ fjoin ! $ owned ! N.the-row (Is N.the-row) (LL.makes N.the-type N′.the-plain 𝓤 H A) n _ is-n $ fjoin ! $ owned ! Ann.the-row (Is Ann.the-row) (LL.makes Ann.the-type Ann′.the-plain 𝓤 H A) a _ is-a $ fjoin ! $
+      nothing ! $ owned ! u32 (Is u32) (uint-makes 𝓤 H A W w32) m _ is-m $ fjoin ! $
+      owned ! N.the-row (Is N.the-row) (LL.makes N.the-type N′.the-plain 𝓤 H A) n _ is-n $ fjoin ! $
+      owned ! Ann.the-row (Is Ann.the-row) (LL.makes Ann.the-type Ann′.the-plain 𝓤 H A) a _ is-a $ fjoin ! $
       owned ! P.the-row (Is P.the-row) (LL.makes P.the-type P′.the-plain 𝓤 H A) p _ is-p $ fjoin ! $ nothing ! $ done !
 
   -- the record at (b, 0), lent under the name γ
@@ -124,28 +126,42 @@ module _ {M : Type 1} (𝓤 : URA M) (H : Heap 𝓤) (A : Atoms 𝓤) (W : Given
   abbrev to-forward : ℕ → ℕ → GName → Forward 𝓤 H A at-mem run .Ghost
   to-forward α b γ = (((α ∷ [], tt), (fullShare, tt), tt, passed b γ, (vptr b 0 ∷ [], (announced a ∷ [], (number n ∷ [], (vint w32 m ∷ [], tt))))), tt)
 
-  goes-forward : n .0 < 16777216 → (α b : ℕ) (γ : GName) → ent 𝓤 (sep 𝓤 (A .lft (α ∷ []) fullShare) (sem 𝓤 H A (MutRef (named 0) (α ∷ []) P.the-row .own (lent b γ) (vptr b 0 ∷ [])))) (Forward 𝓤 H A at-mem run .pre (to-forward α b γ))
+  goes-forward : n .0 < 16777216 → (α b : ℕ) (γ : GName)
+      → ent 𝓤 (sep 𝓤 (A .lft (α ∷ []) fullShare) (sem 𝓤 H A (MutRef (named 0) (α ∷ []) P.the-row .own (lent b γ) (vptr b 0 ∷ []))))
+      (Forward 𝓤 H A at-mem run .pre (to-forward α b γ))
   goes-forward small α b γ =
       qed W (‵ (flft (α ∷ []) fullShare) ∷ ‵ (MutRef (named 0) (α ∷ []) P.the-row .own (lent b γ) (vptr b 0 ∷ [])) ∷ []) ∵ says ! small $ nothing ! $ move ! (1 ∷ 0 ∷ []) $ join ! $ frame ! $
-      nothing ! $ owned ! u32 (Is u32) (uint-makes 𝓤 H A W w32) m _ is-m $ fjoin ! $ owned ! N.the-row (Is N.the-row) (LL.makes N.the-type N′.the-plain 𝓤 H A) n _ is-n $ fjoin ! $ owned ! Ann.the-row (Is Ann.the-row) (LL.makes Ann.the-type Ann′.the-plain 𝓤 H A) a _ is-a $ fjoin ! $ move ! (1 ∷ 0 ∷ []) $ fjoin ! $ done !
+      nothing ! $ owned ! u32 (Is u32) (uint-makes 𝓤 H A W w32) m _ is-m $ fjoin ! $
+      owned ! N.the-row (Is N.the-row) (LL.makes N.the-type N′.the-plain 𝓤 H A) n _ is-n $ fjoin ! $
+      owned ! Ann.the-row (Is Ann.the-row) (LL.makes Ann.the-type Ann′.the-plain 𝓤 H A) a _ is-a $ fjoin ! $ move ! (1 ∷ 0 ∷ []) $ fjoin ! $ done !
 
   module _ (C : Calls 𝓤 H) (Λ : Loops 𝓤 H) (fm : FmC 𝓤 H (W .laws) C) (known : Triple 𝓤 (C #progress·bring-forward) (Forward 𝓤 H A at-mem run)) (small : n .0 < 16777216) where
     walk : ent 𝓤 (onEntry 𝓤 H A brought.signature tt tt x at) (WpFn 𝓤 H C Λ code.function (progress p ∷ announced a ∷ number n ∷ vint w32 m ∷ []) Post)
     walk =
         qed W (‵ ftrue ∷ ‵ (owns (P.the-row ∷ Ann.the-row ∷ N.the-row ∷ u32 ∷ []) x at) ∷ []) ∵ keep ! [] $ enter ! C Λ code.function (progress p ∷ announced a ∷ number n ∷ vint w32 m ∷ []) _ $
-        alloc1 ! (λ l₀. alloc1 ! (λ l₁. alloc1 ! (λ l₂. alloc1 ! (λ l₃. alloc1 ! (λ l₄. alloc1 ! (λ l₅. alloc1 ! (λ l₆. alloc1 ! (λ l₇. alloc0 ! $ params1 ! $ pass1 ! (init ! 12 refl (LL.lawful P.the-type P′.the-laws 𝓤 H A W .typed p _ is-p .0)) $
-        pass1 ! (init ! 10 refl (LL.lawful Ann.the-type Ann′.the-laws 𝓤 H A W .typed a _ is-a .0)) $ pass1 ! (init ! 8 refl (LL.lawful N.the-type N′.the-laws 𝓤 H A W .typed n _ is-n .0)) $ pass1 ! (init ! 6 refl (tt, record { fits = is-m .1 })) $ pass0 ! $
+        alloc1 ! (λ l₀. alloc1 ! (λ l₁. alloc1 ! (λ l₂. alloc1 ! (λ l₃. alloc1 ! (λ l₄. alloc1 ! (λ l₅. alloc1 ! (λ l₆. alloc1 ! (λ l₇. alloc0 ! $
+        params1 ! $ pass1 ! (init ! 12 refl (LL.lawful P.the-type P′.the-laws 𝓤 H A W .typed p _ is-p .0)) $
+        pass1 ! (init ! 10 refl (LL.lawful Ann.the-type Ann′.the-laws 𝓤 H A W .typed a _ is-a .0)) $
+        pass1 ! (init ! 8 refl (LL.lawful N.the-type N′.the-laws 𝓤 H A W .typed n _ is-n .0)) $
+        pass1 ! (init ! 6 refl (tt, record { fits = is-m .1 })) $ pass0 ! $
         -- [_7; …; _6; …; _5; …; _4; …; _3; …; _2; …; _1; …; _0; …]
         assigns ! (of-opd ! (load ! (from ! (stop !)) (look ! 12 refl))) (from ! (stop !)) (init ! 4 refl (LL.lawful P.the-type P′.the-laws 𝓤 H A W .typed p _ is-p .0)) $
         assigns ! (addr ! (from ! (stop !))) (from ! (stop !)) (init ! 0 refl (tt, tt)) $
         -- the record is lent for a new lifetime
         move ! (4 ∷ []) $ use1 W (‵ (partAt P.the-row fullShare p l₅ 0)) (puts 𝓤 H A W p l₅ is-p) $ lft-new ! tt (λ α. move ! (1 ∷ []) $
-        use1 W (later (some (λ (γ : GName). ‵ (MutRef (named 0) (α ∷ []) P.the-row .own (lent l₅ γ) (vptr l₅ 0 ∷ [])) ⊛ ‵ (flent (α ∷ []) (Body (mem P.the-row) l₅ 0 γ))))) (lends-ref 𝓤 H A W P.the-row (named 0) (α ∷ []) p l₅ 0) $
+        use1 W (later (some (λ (γ : GName). ‵ (MutRef (named 0) (α ∷ []) P.the-row .own (lent l₅ γ) (vptr l₅ 0 ∷ [])) ⊛ ‵
+        (flent (α ∷ []) (Body (mem P.the-row) l₅ 0 γ))))) (lends-ref 𝓤 H A W P.the-row (named 0) (α ∷ []) p l₅ 0) $
         await ! tt $ pick ! (λ γ. split ! $ move ! (2 ∷ 0 ∷ []) $ use2 W (raw (Forward 𝓤 H A at-mem run .pre (to-forward α l₅ γ))) (goes-forward small α l₅ γ) $
         -- [what the callee asks; the lender's part; _7; …; _6; …; what frees _5; _4; …; _3; …; _2; …; _1; …; _0; …]
-        calls-at ! fm (Forward 𝓤 H A at-mem run) known (to-forward α l₅ γ) (and-then ! (load ! (from ! (stop !)) (look ! 2 refl)) (and-then ! (load ! (from ! (stop !)) (look ! 11 refl)) (and-then ! (load ! (from ! (stop !)) (look ! 9 refl)) (and-then ! (load ! (from ! (stop !)) (look ! 7 refl)) (no-more !))))) (λ v.
-        use1 W (later (some (λ (u : Unit {0}). ((‵ (flft (α ∷ []) fullShare) ⊛ ‵ ftrue) ⊛ ‵ (unit .own u (v ∷ []))) ⊛ raw (ensured 𝓤 H A forward.ended (forward.clauses 𝓤 H A at-mem run) (α ∷ [], tt) (passed l₅ γ) tt u)))) (id⊢ 𝓤 _) $ await ! tt $ pick ! (λ u.
-        split ! $ move ! (1 ∷ []) $ use1 W (some (λ (ws : Lasts forward.ended (α ∷ [], tt) (passed l₅ γ)). ‵ (lasts forward.ended (α ∷ [], tt) (passed l₅ γ) ws) ⊛ raw (fact 𝓤 (ws .0 ≡ advancedBy p a (n .0) m)))) (id⊢ 𝓤 _) $ pick ! (λ ws.
+        calls-at ! fm (Forward 𝓤 H A at-mem run) known (to-forward α l₅ γ)
+        (and-then ! (load ! (from ! (stop !)) (look ! 2 refl))
+        (and-then ! (load ! (from ! (stop !)) (look ! 11 refl))
+        (and-then ! (load ! (from ! (stop !)) (look ! 9 refl)) (and-then ! (load ! (from ! (stop !)) (look ! 7 refl)) (no-more !))))) (λ v.
+        use1 W (later (some (λ (u : Unit {0}). ((‵ (flft (α ∷ []) fullShare) ⊛ ‵ ftrue) ⊛ ‵ (unit .own u (v ∷ []))) ⊛ raw
+        (ensured 𝓤 H A forward.ended (forward.clauses 𝓤 H A at-mem run) (α ∷ [], tt) (passed l₅ γ) tt u)))) (id⊢ 𝓤 _) $ await ! tt $ pick ! (λ u.
+        split ! $ move ! (1 ∷ []) $
+        use1 W (some (λ (ws : Lasts forward.ended (α ∷ [], tt) (passed l₅ γ)). ‵ (lasts forward.ended (α ∷ [], tt) (passed l₅ γ) ws) ⊛ raw
+        (fact 𝓤 (ws .0 ≡ advancedBy p a (n .0) m)))) (id⊢ 𝓤 _) $ pick ! (λ ws.
         split ! $ move ! (1 ∷ []) $ heard ! (ws .0 ≡ advancedBy p a (n .0) m) (λ e. fsplit ! $ move ! (2 ∷ []) $ split ! $ move ! (1 ∷ []) $
         facts ! unit (Is unit) (shows 𝓤 H A unit) u (v ∷ []) (λ is-u. split ! $
         -- [the token; true; the last value; true; the lender's part; _7; …; _6; …]
@@ -157,21 +173,36 @@ module _ {M : Type 1} (𝓤 : URA M) (H : Heap 𝓤) (A : Atoms 𝓤) (W : Given
         -- [_5; what it owns; true; true; _7; …; _6; …; what frees _5; _4; …; _3; …; _2; …; _1; …; _0; …]
         assigns ! (of-opd ! (load ! (from ! (stop !)) (look ! 0 refl))) (from ! (stop !)) (init ! 17 refl (LL.lawful P.the-type P′.the-laws 𝓤 H A W .typed (ws .0) _ is .0)) $
         returns ! (look ! 17 refl) $ forget ! 0 refl $ forget ! 4 refl $ forget ! 6 refl $ forget ! 9 refl $ forget ! 11 refl $ forget ! 13 refl $ forget ! 15 refl $ forget ! 17 refl $
-        move ! (17 ∷ 18 ∷ []) $ free1 ! $ move ! (15 ∷ 16 ∷ []) $ free1 ! $ move ! (13 ∷ 14 ∷ []) $ free1 ! $ move ! (11 ∷ 12 ∷ []) $ free1 ! $ move ! (9 ∷ 10 ∷ []) $ free1 ! $ move ! (0 ∷ 8 ∷ []) $ free1 ! $ move ! (5 ∷ 6 ∷ []) $ free1 ! $ move ! (3 ∷ 4 ∷ []) $ free1 ! $ free0 ! $
+        move ! (17 ∷ 18 ∷ []) $ free1 ! $ move ! (15 ∷ 16 ∷ []) $ free1 ! $ move ! (13 ∷ 14 ∷ []) $ free1 ! $ move ! (11 ∷ 12 ∷ []) $ free1 ! $
+        move ! (9 ∷ 10 ∷ []) $ free1 ! $ move ! (0 ∷ 8 ∷ []) $ free1 ! $ move ! (5 ∷ 6 ∷ []) $ free1 ! $ move ! (3 ∷ 4 ∷ []) $ free1 ! $ free0 ! $
         keep ! (0 ∷ []) $ by ! (exits (ws .0) e)))))))))))))))))
 
 module _ {M : Type 1} (𝓤 : URA M) (H : Heap 𝓤) (A : Atoms 𝓤) (W : Given 𝓤 H A) (at-mem : Memory → SProp 𝓤) (run : Routine → Fun 𝓤) where
-  brought-walks : (C : Calls 𝓤 H) (Λ : Loops 𝓤 H) → FmC 𝓤 H (W .laws) C → Triple 𝓤 (C #progress·bring-forward) (Forward 𝓤 H A at-mem run) → Walks 𝓤 H A brought.ended stayed (WpFn 𝓤 H C Λ code.function) (brought.clauses 𝓤 H A at-mem run)
-  brought-walks C Λ fm known = walked 𝓤 H A brought.ended stayed (brought.clauses 𝓤 H A at-mem run) (WpFn 𝓤 H C Λ code.function) (λ κs. (LL.vals P.the-type P′.the-laws, (LL.vals Ann.the-type Ann′.the-laws, (LL.vals N.the-type N′.the-laws, (uint-vals w32, tt)))))
+  brought-walks : (C : Calls 𝓤 H) (Λ : Loops 𝓤 H) → FmC 𝓤 H (W .laws) C → Triple 𝓤 (C #progress·bring-forward) (Forward 𝓤 H A at-mem run)
+      → Walks 𝓤 H A brought.ended stayed (WpFn 𝓤 H C Λ code.function) (brought.clauses 𝓤 H A at-mem run)
+  brought-walks C Λ fm known = walked 𝓤 H A brought.ended stayed (brought.clauses 𝓤 H A at-mem run) (WpFn 𝓤 H C Λ code.function)
+      (λ κs. (LL.vals P.the-type P′.the-laws, (LL.vals Ann.the-type Ann′.the-laws, (LL.vals N.the-type N′.the-laws, (uint-vals w32, tt)))))
       (λ κs. (LL.tells P.the-type P′.the-laws, (LL.tells Ann.the-type Ann′.the-laws, (LL.tells N.the-type N′.the-laws, (uint-tells w32, tt)))))
-      (λ κs qs bounds x g are. needs 𝓤 (x .1 .1 .0 .0 < 16777216) _ (λ small. walk 𝓤 H A W at-mem run (x .0) (x .1 .0) (x .1 .1 .0) (x .1 .1 .1 .0) (are .0) (are .1 .0) (are .1 .1 .0) (are .1 .1 .1 .0) C Λ fm known small))
+      (λ κs qs bounds x g are. needs 𝓤 (x .1 .1 .0 .0 < 16777216) _
+      (λ small. walk 𝓤 H A W at-mem run (x .0) (x .1 .0) (x .1 .1 .0) (x .1 .1 .1 .0) (are .0) (are .1 .0) (are .1 .1 .0)
+      (are .1 .1 .1 .0) C Λ fm known small))
 
   goes : AllGo 𝓤 H A W 0 (brought.signature .params) (brought.ended .kept) stayed
-  goes = (goes-none 𝓤 H A W 0 (λ _. P.the-row) yes (λ κs x f. refl), (goes-none 𝓤 H A W 0 (λ _. Ann.the-row) yes (λ κs x f. refl), (goes-none 𝓤 H A W 0 (λ _. N.the-row) yes (λ κs x f. refl), (goes-none 𝓤 H A W 0 (λ _. u32) yes (λ κs x f. refl), tt))))
+  goes = (
+    goes-none 𝓤 H A W 0 (λ _. P.the-row) yes
+        (λ κs x f. refl),
+    (
+      goes-none 𝓤 H A W 0 (λ _. Ann.the-row) yes
+          (λ κs x f. refl),
+      (goes-none 𝓤 H A W 0 (λ _. N.the-row) yes (λ κs x f. refl), (goes-none 𝓤 H A W 0 (λ _. u32) yes (λ κs x f. refl), tt)),
+    ),
+  )
 
-brought-meets : {M : Type 1} (𝓤 : URA M) (H : Heap 𝓤) (A : Atoms 𝓤) (W : Given 𝓤 H A) (at-mem : Memory → SProp 𝓤) (run : Routine → Fun 𝓤) (𝓣 : Tables 𝓤 H) → Triple 𝓤 (𝓣 .C #progress·bring-forward) (Forward 𝓤 H A at-mem run)
+brought-meets : {M : Type 1} (𝓤 : URA M) (H : Heap 𝓤) (A : Atoms 𝓤) (W : Given 𝓤 H A) (at-mem : Memory → SProp 𝓤) (run : Routine → Fun 𝓤)
+    (𝓣 : Tables 𝓤 H) → Triple 𝓤 (𝓣 .C #progress·bring-forward) (Forward 𝓤 H A at-mem run)
     → Meets 𝓤 H A brought.signature (WpFn 𝓤 H (𝓣 .C) (𝓣 .Λ) code.function) (brought.spec 𝓤 H A at-mem run)
-brought-meets 𝓤 H A W at-mem run 𝓣 known = walk-meets 𝓤 H A brought.ended stayed W (goes 𝓤 H A W at-mem run) (brought.clauses 𝓤 H A at-mem run) (WpFn 𝓤 H (𝓣 .C) (𝓣 .Λ) code.function) (WpFn-mono 𝓤 H (W .laws) 𝓣 code.function)
+brought-meets 𝓤 H A W at-mem run 𝓣 known = walk-meets 𝓤 H A brought.ended stayed W (goes 𝓤 H A W at-mem run) (brought.clauses 𝓤 H A at-mem run)
+    (WpFn 𝓤 H (𝓣 .C) (𝓣 .Λ) code.function) (WpFn-mono 𝓤 H (W .laws) 𝓣 code.function)
     (brought-walks 𝓤 H A W at-mem run (𝓣 .C) (𝓣 .Λ) (fmOf 𝓤 H (W .laws) 𝓣) known)
 
 pub brought-forward-spec : {M : Type 1} → stated.statement M

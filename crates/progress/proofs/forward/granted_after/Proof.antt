@@ -18,7 +18,11 @@ add-result : tie.Need-add-result
 add-result c = search needs
 
 returns : tie.Need-returns
-returns c = then _ _ _ _ (sym (c .before .before .before .before .is-cts-due .ensures) ∙ c .before .before .before .if1 .taken) (ap (λ k. c .before .before .before .before .before .args .n .0 + k) (c .before .wide .ensures .0 ∙ c .before .before .next-count .ensures))
+returns c =
+    let at-if1 = c .before .before .before in
+    let at-is-cts-due = at-if1 .before in
+    let start = at-is-cts-due .before in
+    then _ _ _ _ (sym (at-is-cts-due .is-cts-due .ensures) ∙ at-if1 .if1 .taken) (ap (λ k. start .args .n .0 + k) (c .before .wide .ensures .0 ∙ c .before .before .next-count .ensures))
 
 returns-2 : tie.Need-returns-2
 returns-2 c = else _ _ _ _ (sym (c .before .is-cts-due .ensures) ∙ c .if1 .left) refl

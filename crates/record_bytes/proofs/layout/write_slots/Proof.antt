@@ -1,6 +1,6 @@
-use Prim.Native.Nat.{ℕ, _-_, _<_, _≤_}
-use mathlib.Core.Path.{_≡_, refl, sym, ap, _∙_}
-use mathlib.Core.List.{List, _++_}
+use Prim.Native.Nat.{_-_, _≤_}
+use mathlib.Core.Path.{_≡_, refl}
+use mathlib.Core.List.{_++_}
 use lib.ListN.{length, take, drop}
 use denote.Ref.{now}
 use native.Mathlib.Omega.{arith}
@@ -10,12 +10,14 @@ use Rattle.record_bytes.proofs.Slots.{slots-turn, slots-long, slots-all
 use borrow.Author.Needs.{needs}
 use Rattle.record_bytes.proofs.layout.write_slots.Statement.{statement}
 use Rattle.record_bytes.proofs.layout.write_slots.Tie as tie
-use Rattle.record_bytes.proofs.layout.write_slots.Reads as reads
-use Rattle.record_bytes.proofs.layout.write_slots.Lts as lts
-use Rattle.record_bytes.proofs.slot.slot_bytes.Reads as slot-bytes-reads
 
 abbrev Inv-loop : tie.InvT-loop
-Inv-loop out₀ slots i₀ out i = (length slots ≡ 8) × (length out₀ ≡ recordLength) × (length out ≡ recordLength) × (i ≤ 8) × (take (slotPlace i) out ++ slotsBytes (drop i slots) ≡ written slots out₀)
+Inv-loop out₀ slots i₀ out i =
+    (length slots ≡ 8)
+    × (length out₀ ≡ recordLength)
+    × (length out ≡ recordLength)
+    × (i ≤ 8)
+    × (take (slotPlace i) out ++ slotsBytes (drop i slots) ≡ written slots out₀)
 
 abbrev μ-loop : tie.MeasureT-loop
 μ-loop out₀ slots i₀ out i = 8 - i
@@ -23,26 +25,14 @@ abbrev μ-loop : tie.MeasureT-loop
 loop-holds : tie.Need-loop-holds Inv-loop μ-loop
 loop-holds c = (search needs, search needs, search needs, search needs, refl)
 
-mul-slot-bytes : tie.Need-mul-slot-bytes Inv-loop μ-loop
-mul-slot-bytes c = search needs
+mul-put-slot : tie.Need-mul-put-slot Inv-loop μ-loop
+mul-put-slot c = search needs
 
-array-copy-out-slot-bytes : tie.Need-array-copy-out-slot-bytes Inv-loop μ-loop
-array-copy-out-slot-bytes c = search needs
+array-copy-out-put-slot : tie.Need-array-copy-out-put-slot Inv-loop μ-loop
+array-copy-out-put-slot c = search needs
 
-slot-bytes-requires : tie.Need-slot-bytes-requires Inv-loop μ-loop
-slot-bytes-requires c κs = search needs
-
-mul-copy : tie.Need-mul-copy Inv-loop μ-loop
-mul-copy c = search needs
-
-add-copy : tie.Need-add-copy Inv-loop μ-loop
-add-copy c = search needs
-
-slice-aggregate-copy : tie.Need-slice-aggregate-copy Inv-loop μ-loop
-slice-aggregate-copy c = search needs
-
-copy-requires : tie.Need-copy-requires Inv-loop μ-loop
-copy-requires c κs = search needs
+put-slot-requires : tie.Need-put-slot-requires Inv-loop μ-loop
+put-slot-requires c κs = search needs
 
 add-i : tie.Need-add-i Inv-loop μ-loop
 add-i c = search needs
@@ -52,16 +42,16 @@ loop-less c = search needs
 
 loop-again : tie.Need-loop-again Inv-loop μ-loop
 loop-again c =
-    let a = c .before .before .before .before .before .before .before .before .before .before .args in
-    let at = c .before .before .before .before .before .before .before .before .loop in
-    let e = c .before .before .copy .ensures in
-    let q = c .before .before .before .before .before .slot-bytes .ensures in
-    let o = c .before .before .copy .last .0 in (
+    let put = c .before .before in
+    let at = put .before .before .before .before .loop in
+    let a = put .before .before .before .before .before .before .args in
+    let e = put .put-slot .ensures in
+    let o = put .put-slot .last .0 in (
       search needs,
       search needs,
-      slots-long (a .t1) (now (a .out)) (at .out) o _ (at .i) _ (at .inv .0) (at .inv .2) (search needs) e q,
+      slots-long (a .t1) (now (a .out)) (at .out) o (at .i) _ (at .inv .0) (at .inv .2) (search needs) e,
       search needs,
-      slots-turn (a .t1) (now (a .out)) (at .out) o _ (at .i) _ (at .inv .0) (at .inv .2) (search needs) e q (at .inv .4),
+      slots-turn (a .t1) (now (a .out)) (at .out) o (at .i) _ (at .inv .0) (at .inv .2) (search needs) e (at .inv .4),
     )
 
 same-length : tie.Need-same-length Inv-loop μ-loop
@@ -79,13 +69,9 @@ write-slots-spec =
     Inv-loop
     μ-loop
     loop-holds
-    mul-slot-bytes
-    array-copy-out-slot-bytes
-    slot-bytes-requires
-    mul-copy
-    add-copy
-    slice-aggregate-copy
-    copy-requires
+    mul-put-slot
+    array-copy-out-put-slot
+    put-slot-requires
     add-i
     loop-less
     loop-again

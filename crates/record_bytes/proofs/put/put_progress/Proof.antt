@@ -1,49 +1,69 @@
-use Prim.Native.Nat.{ℕ}
-use mathlib.Core.Path.{ap, _∙_}
-use mathlib.Core.List.{List}
+use Prim.Native.Nat.{ℕ, _+_}
+use native.Mathlib.Omega.{arith}
+use mathlib.Core.Path.{_≡_, ap, _∙_}
+use mathlib.Core.List.{[], _++_}
 use lib.Seq.{paste}
 use denote.Ref.{now}
+use Rattle.record_bytes.specs.Places.{nextPlace, grantedPlace, markPlace, progressPlace}
+use Rattle.record_bytes.specs.Layout.{low4}
+use Rattle.record_bytes.specs.Written.{next-field}
 use borrow.Author.Needs.{needs}
-use Rattle.record_bytes.specs.Places.{progressLength, progressPlace}
 use Rattle.record_bytes.proofs.put.put_progress.Statement.{statement}
 use Rattle.record_bytes.proofs.put.put_progress.Tie as tie
-use Rattle.record_bytes.proofs.put.put_progress.Reads as reads
-use Rattle.record_bytes.proofs.put.put_progress.Lts as lts
-use Rattle.record_bytes.proofs.slot.progress_bytes.Reads as progress-bytes-reads
 
-progress-bytes-requires : tie.Need-progress-bytes-requires
-progress-bytes-requires c κs = search needs
+slot-place-requires : tie.Need-slot-place-requires
+slot-place-requires c κs = search needs
 
-add-copy : tie.Need-add-copy
-add-copy c = search needs
+add-put-word : tie.Need-add-put-word
+add-put-word c = search needs
 
-mul-copy : tie.Need-mul-copy
-mul-copy c = search needs
+put-word-requires : tie.Need-put-word-requires
+put-word-requires c κs = search needs
 
-add-copy-2 : tie.Need-add-copy-2
-add-copy-2 c = search needs
+add-put-word-2 : tie.Need-add-put-word-2
+add-put-word-2 c = search needs
 
-slice-aggregate-copy : tie.Need-slice-aggregate-copy
-slice-aggregate-copy c = search needs
+put-word-requires-2 : tie.Need-put-word-requires-2
+put-word-requires-2 c κs = search needs
 
-copy-requires : tie.Need-copy-requires
-copy-requires c κs = search needs
+add-put-word-3 : tie.Need-add-put-word-3
+add-put-word-3 c = search needs
+
+put-word-requires-3 : tie.Need-put-word-requires-3
+put-word-requires-3 c κs = search needs
 
 same-length : tie.Need-same-length
 same-length c = search needs
 
 returns : tie.Need-returns
-returns c = c .before .before .copy .ensures ∙ ap (λ (l : List ℕ). paste (now (c .before .before .before .before .before .before .before .args .out)) (progressPlace (c .before .before .before .before .before .before .before .args .i)) l progressLength) (c .before .before .before .before .before .progress-bytes .ensures)
+returns c =
+    let third = c .before .before in
+    let second = third .before .before .before .before in
+    let first = second .before .before .before .before in
+    let placed = first .before .before in
+    let a = placed .before .before .args in
+    let d = now (a .out) in
+    let at = progressPlace (a .i) in
+    let slot = placed .slot-place .result in
+    let next = low4 (a .p .next .0) [] in
+    let granted = low4 (a .p .granted .0) [] in
+    let w : slot + nextPlace ≡ at = omega (arith, placed .slot-place .ensures) in
+    next-field d at (next ++ granted) (slot + markPlace) (low4 (a .p .mark) [])
+    (next-field d at next (slot + grantedPlace) granted
+    (first .put-word .ensures ∙ ap (λ (k : ℕ). paste d k next 4) w)
+    (second .put-word2 .ensures) (omega (arith, w)) (omega arith))
+    (third .put-word3 .ensures) (omega (arith, w)) (omega arith)
 
 pub put-progress-spec : {M : Type 1} → statement M
 put-progress-spec =
     tie.close
     (tie.spec
-    progress-bytes-requires
-    add-copy
-    mul-copy
-    add-copy-2
-    slice-aggregate-copy
-    copy-requires
+    slot-place-requires
+    add-put-word
+    put-word-requires
+    add-put-word-2
+    put-word-requires-2
+    add-put-word-3
+    put-word-requires-3
     same-length
     returns)

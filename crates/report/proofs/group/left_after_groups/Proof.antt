@@ -37,16 +37,31 @@ enum-told-2 : tie.Need-enum-told-2 Inv-loop μ-loop
 enum-told-2 c = search needs
 
 returns-2 : tie.Need-returns-2 Inv-loop μ-loop
-returns-2 c = counting-cut _ _ _ _ _ (c .before .before .before .before .before .before .before .loop .inv) _ _ (sym (c .before .before .before .before .before .before .group-at .ensures) ∙ c .before .before .before .before .group .given .1) (sym (c .before .before .left-after-group .ensures) ∙ c .enum-told2 .given .1)
+returns-2 c =
+    let at-group = c .before .before .before .before in
+    let at-group-at = at-group .before .before in
+    let at-loop = at-group-at .before in
+    counting-cut _ _ _ _ _ (at-loop .loop .inv) _ _ (sym (at-group-at .group-at .ensures) ∙ at-group .group .given .1) (sym (c .before .before .left-after-group .ensures) ∙ c .enum-told2 .given .1)
 
 place-after-requires : tie.Need-place-after-requires Inv-loop μ-loop
 place-after-requires c κs = search needs
 
 loop-less : tie.Need-loop-less Inv-loop μ-loop
-loop-less c = nearer (c .before .before .before .before .before .before .before .before .before .before .before .args .frame .now) (c .before .before .before .before .before .before .before .before .before .loop .at) _ _ (sym (c .before .before .before .before .before .before .before .before .group-at .ensures) ∙ c .before .before .before .before .before .before .group .given .1) _ (c .place-after .ensures)
+loop-less c =
+    let at-group = c .before .before .before .before .before .before in
+    let at-group-at = at-group .before .before in
+    let at-loop = at-group-at .before in
+    let start = at-loop .before .before in
+    nearer (start .args .frame .now) (at-loop .loop .at) _ _ (sym (at-group-at .group-at .ensures) ∙ at-group .group .given .1) _ (c .place-after .ensures)
 
 loop-again : tie.Need-loop-again Inv-loop μ-loop
-loop-again c = counting-on _ _ _ _ _ (c .before .before .before .before .before .before .before .before .before .loop .inv) _ _ (sym (c .before .before .before .before .before .before .before .before .group-at .ensures) ∙ c .before .before .before .before .before .before .group .given .1) _ (sym (c .before .before .before .before .left-after-group .ensures) ∙ c .before .before .behind .given .1) _ (c .place-after .ensures)
+loop-again c =
+    let at-left-after-group = c .before .before .before .before in
+    let at-group = at-left-after-group .before .before in
+    let at-group-at = at-group .before .before in
+    let at-loop = at-group-at .before in
+    counting-on _ _ _ _ _ (at-loop .loop .inv) _ _ (sym (at-group-at .group-at .ensures) ∙ at-group .group .given .1) _
+    (sym (at-left-after-group .left-after-group .ensures) ∙ c .before .before .behind .given .1) _ (c .place-after .ensures)
 
 pub left-after-groups-spec : {M : Type 1} → statement M
 left-after-groups-spec =

@@ -19,13 +19,20 @@ slice-aggregate-put-plain-2 : tie.Need-slice-aggregate-put-plain-2
 slice-aggregate-put-plain-2 c = search needs
 
 put-plain-requires : tie.Need-put-plain-requires
-put-plain-requires c κs = subst (λ (ns : List ℕ). c .before .before .before .before .before .args .at + length (lineOf pgWord ns) ≤ length (c .before .before .before .before .before .args .out .now)) (sym (c .before .before .before .group-numbers .ensures)) (c .before .before .before .before .before .pre)
+put-plain-requires c κs =
+    let at-group-numbers = c .before .before .before in
+    let start = at-group-numbers .before .before in
+    subst (λ (ns : List ℕ). start .args .at + length (lineOf pgWord ns) ≤ length (start .args .out .now)) (sym (at-group-numbers .group-numbers .ensures)) (start .pre)
 
 same-length : tie.Need-same-length
 same-length c = search needs
 
 returns : tie.Need-returns
-returns c = subst (λ (ns : List ℕ). PutAt (c .before .before .before .before .before .before .before .before .args .out .now) (c .before .before .before .before .before .before .before .before .args .at) (lineOf pgWord ns) (c .before .before .put-plain .result) (c .before .before .put-plain .last .0)) (c .before .before .before .before .before .before .group-numbers .ensures) (c .before .before .put-plain .ensures)
+returns c =
+    let at-group-numbers = c .before .before .before .before .before .before in
+    let start = at-group-numbers .before .before in
+    subst (λ (ns : List ℕ). PutAt (start .args .out .now) (start .args .at) (lineOf pgWord ns) (c .before .before .put-plain .result)
+    (c .before .before .put-plain .last .0)) (at-group-numbers .group-numbers .ensures) (c .before .before .put-plain .ensures)
 
 pub put-group-spec : {M : Type 1} → statement M
 put-group-spec =

@@ -31,16 +31,32 @@ enum-known-group : tie.Need-enum-known-group Inv-loop μ-loop
 enum-known-group c = search needs
 
 put-group-requires : tie.Need-put-group-requires Inv-loop μ-loop
-put-group-requires c κs = printing-room _ _ _ _ _ _ _ (c .before .before .before .before .before .loop .inv) (c .before .before .before .before .before .before .before .before .pre .1) _ _ (sym (c .before .before .before .before .group-at .ensures) ∙ c .before .before .group .given .1)
+put-group-requires c κs =
+    let at-group-at = c .before .before .before .before in
+    let at-loop = at-group-at .before in
+    let start = at-loop .before .before .before in
+    printing-room _ _ _ _ _ _ _ (at-loop .loop .inv) (start .pre .1) _ _ (sym (at-group-at .group-at .ensures) ∙ c .before .before .group .given .1)
 
 place-after-requires : tie.Need-place-after-requires Inv-loop μ-loop
 place-after-requires c κs = search needs
 
 loop-less : tie.Need-loop-less Inv-loop μ-loop
-loop-less c = nearer (c .before .before .before .before .before .before .before .before .before .before .before .before .args .frame .now) (c .before .before .before .before .before .before .before .before .before .loop .place) _ _ (sym (c .before .before .before .before .before .before .before .before .group-at .ensures) ∙ c .before .before .before .before .before .before .group .given .1) _ (c .place-after .ensures)
+loop-less c =
+    let at-group = c .before .before .before .before .before .before in
+    let at-group-at = at-group .before .before in
+    let at-loop = at-group-at .before in
+    let start = at-loop .before .before .before in
+    nearer (start .args .frame .now) (at-loop .loop .place) _ _ (sym (at-group-at .group-at .ensures) ∙ at-group .group .given .1) _ (c .place-after .ensures)
 
 loop-again : tie.Need-loop-again Inv-loop μ-loop
-loop-again c = printing-on _ _ _ _ _ _ _ (c .before .before .before .before .before .before .before .before .before .loop .inv) (c .before .before .before .before .before .before .before .before .before .before .before .before .pre .1) _ _ (sym (c .before .before .before .before .before .before .before .before .group-at .ensures) ∙ c .before .before .before .before .before .before .group .given .1) _ _ (c .before .before .before .put-group .ensures) _ (c .place-after .ensures)
+loop-again c =
+    let at-put-group = c .before .before .before in
+    let at-group = at-put-group .before .before .before in
+    let at-group-at = at-group .before .before in
+    let at-loop = at-group-at .before in
+    let start = at-loop .before .before .before in
+    printing-on _ _ _ _ _ _ _ (at-loop .loop .inv) (start .pre .1) _ _ (sym (at-group-at .group-at .ensures) ∙ at-group .group .given .1) _ _
+    (at-put-group .put-group .ensures) _ (c .place-after .ensures)
 
 pub put-groups-spec : {M : Type 1} → statement M
 put-groups-spec =

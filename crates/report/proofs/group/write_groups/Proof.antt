@@ -8,7 +8,9 @@ use Rattle.report.proofs.group.write_groups.Statement.{statement}
 use Rattle.report.proofs.group.write_groups.Tie as tie
 
 returns : tie.Need-returns
-returns c = placed-short (c .before .before .before .args .out .now) (c .before .before .before .args .at) (groupLines (c .before .before .before .args .route) (groupsOf (c .before .before .before .args .frame .now))) (omega (arith, c .if1 .taken))
+returns c =
+    let start = c .before .before .before in
+    placed-short (start .args .out .now) (start .args .at) (groupLines (start .args .route) (groupsOf (start .args .frame .now))) (omega (arith, c .if1 .taken))
 
 first-place-requires : tie.Need-first-place-requires
 first-place-requires c κs = search needs
@@ -23,16 +25,36 @@ enum-told-2 : tie.Need-enum-told-2
 enum-told-2 c = search needs
 
 returns-2 : tie.Need-returns-2
-returns-2 c = left-cut (c .before .before .before .before .before .before .before .args .out .now) (c .before .before .before .before .before .before .before .args .at) (groupLines (c .before .before .before .before .before .before .before .args .route) (groupsOf (c .before .before .before .before .before .before .before .args .frame .now))) (c .before .before .before .before .if1 .left) (sym (c .before .before .left-after-groups .ensures) ∙ c .enum-told2 .given .1)
+returns-2 c =
+    let at-if1 = c .before .before .before .before in
+    let start = at-if1 .before .before .before in
+    left-cut (start .args .out .now) (start .args .at) (groupLines (start .args .route) (groupsOf (start .args .frame .now))) (at-if1 .if1 .left)
+    (sym (c .before .before .left-after-groups .ensures) ∙ c .enum-told2 .given .1)
 
 put-groups-requires : tie.Need-put-groups-requires
-put-groups-requires c κs = (c .before .before .before .before .first-place .ensures, left-room (c .before .before .before .before .before .before .before .before .args .out .now) (c .before .before .before .before .before .before .before .before .args .at) (groupLines (c .before .before .before .before .before .before .before .before .args .route) (groupsOf (c .before .before .before .before .before .before .before .before .args .frame .now))) (c .before .before .before .before .before .if1 .left) _ (sym (c .before .before .before .left-after-groups .ensures) ∙ c .before .enum-told .given .1))
+put-groups-requires c κs =
+    let at-left-after-groups = c .before .before .before in
+    let at-first-place = at-left-after-groups .before in
+    let at-if1 = at-first-place .before in
+    let start = at-if1 .before .before .before in (
+      at-first-place .first-place .ensures,
+      left-room (start .args .out .now) (start .args .at)
+          (groupLines (start .args .route) (groupsOf (start .args .frame .now))) (at-if1 .if1 .left) _
+          (sym (at-left-after-groups .left-after-groups .ensures) ∙ c .before .enum-told .given .1),
+    )
 
 same-length : tie.Need-same-length
 same-length c = search needs
 
 returns-3 : tie.Need-returns-3
-returns-3 c = placed-put (c .before .before .before .before .before .before .before .before .before .before .before .args .out .now) (c .before .before .before .before .before .before .before .before .before .before .before .args .at) (groupLines (c .before .before .before .before .before .before .before .before .before .before .before .args .route) (groupsOf (c .before .before .before .before .before .before .before .before .before .before .before .args .frame .now))) (left-room (c .before .before .before .before .before .before .before .before .before .before .before .args .out .now) (c .before .before .before .before .before .before .before .before .before .before .before .args .at) (groupLines (c .before .before .before .before .before .before .before .before .before .before .before .args .route) (groupsOf (c .before .before .before .before .before .before .before .before .before .before .before .args .frame .now))) (c .before .before .before .before .before .before .before .before .if1 .left) _ (sym (c .before .before .before .before .before .before .left-after-groups .ensures) ∙ c .before .before .before .before .enum-told .given .1)) _ _ (c .before .before .put-groups .ensures)
+returns-3 c =
+    let at-enum-told = c .before .before .before .before in
+    let at-left-after-groups = at-enum-told .before .before in
+    let at-if1 = at-left-after-groups .before .before in
+    let start = at-if1 .before .before .before in
+    placed-put (start .args .out .now) (start .args .at) (groupLines (start .args .route) (groupsOf (start .args .frame .now)))
+    (left-room (start .args .out .now) (start .args .at) (groupLines (start .args .route) (groupsOf (start .args .frame .now))) (at-if1 .if1 .left) _
+    (sym (at-left-after-groups .left-after-groups .ensures) ∙ at-enum-told .enum-told .given .1)) _ _ (c .before .before .put-groups .ensures)
 
 pub write-groups-spec : {M : Type 1} → statement M
 write-groups-spec =

@@ -38,10 +38,24 @@ left-after-plain-requires-2 : tie.Need-left-after-plain-requires-2
 left-after-plain-requires-2 c κs = search needs
 
 returns : tie.Need-returns
-returns c = c .left-after-plain .ensures ∙ ap (λ (l : List ℕ). leftBy (c .before .before .before .before .before .before .args .room) (length l)) (sym (ap (λ (k : Kind). lineOf (endingWord k) (endingNumbers (c .before .before .before .before .before .before .args .ending))) (c .before .before .before .enum-told .given .1) ∙ ap (lineOf (endingWord Rts)) (sym (c .before .before .before .before .before .ending-numbers .ensures))))
+returns c =
+    let at-enum-told = c .before .before .before in
+    let at-ending-numbers = at-enum-told .before .before in
+    let start = at-ending-numbers .before in
+    c .left-after-plain .ensures
+    ∙ ap (λ (l : List ℕ). leftBy (start .args .room) (length l))
+    (sym (ap (λ (k : Kind). lineOf (endingWord k) (endingNumbers (start .args .ending))) (at-enum-told .enum-told .given .1)
+    ∙ ap (lineOf (endingWord Rts)) (sym (at-ending-numbers .ending-numbers .ensures))))
 
 returns-2 : tie.Need-returns-2
-returns-2 c = c .left-after-plain2 .ensures ∙ ap (λ (l : List ℕ). leftBy (c .before .before .before .before .before .before .args .room) (length l)) (sym (ap (λ (k : Kind). lineOf (endingWord k) (endingNumbers (c .before .before .before .before .before .before .args .ending))) (c .before .before .before .enum-told2 .given .1) ∙ ap (lineOf (endingWord Bam)) (sym (c .before .before .before .before .before .ending-numbers .ensures))))
+returns-2 c =
+    let at-enum-told2 = c .before .before .before in
+    let at-ending-numbers = at-enum-told2 .before .before in
+    let start = at-ending-numbers .before in
+    c .left-after-plain2 .ensures
+    ∙ ap (λ (l : List ℕ). leftBy (start .args .room) (length l))
+    (sym (ap (λ (k : Kind). lineOf (endingWord k) (endingNumbers (start .args .ending))) (at-enum-told2 .enum-told2 .given .1)
+    ∙ ap (lineOf (endingWord Bam)) (sym (at-ending-numbers .ending-numbers .ensures))))
 
 pub left-after-ending-spec : {M : Type 1} → statement M
 left-after-ending-spec =

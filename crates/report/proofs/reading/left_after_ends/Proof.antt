@@ -35,7 +35,11 @@ enum-told : tie.Need-enum-told Inv-loop μ-loop
 enum-told c = search needs
 
 returns : tie.Need-returns Inv-loop μ-loop
-returns c = count-cut endsLines slotLines no-ends more-ends _ _ _ _ (c .before .before .before .before .before .loop .inv .2) none (omega (arith, c .before .before .before .before .loop-test .taken, c .before .before .before .before .before .loop .inv .1)) (sym (c .before .before .left-after-end .ensures) ∙ c .enum-told .given .1)
+returns c =
+    let at-loop-test = c .before .before .before .before in
+    let at-loop = at-loop-test .before in
+    count-cut endsLines slotLines no-ends more-ends _ _ _ _ (at-loop .loop .inv .2) none
+    (omega (arith, at-loop-test .loop-test .taken, at-loop .loop .inv .1)) (sym (c .before .before .left-after-end .ensures) ∙ c .enum-told .given .1)
 
 add-i : tie.Need-add-i Inv-loop μ-loop
 add-i c = search needs
@@ -44,10 +48,20 @@ loop-less : tie.Need-loop-less Inv-loop μ-loop
 loop-less c = search needs
 
 loop-again : tie.Need-loop-again Inv-loop μ-loop
-loop-again c = (omega arith, c .before .before .before .before .before .before .loop .inv .1, count-on endsLines slotLines no-ends more-ends _ _ _ _ (c .before .before .before .before .before .before .loop .inv .2) none (omega (arith, c .before .before .before .before .before .loop-test .taken, c .before .before .before .before .before .before .loop .inv .1)) _ (sym (c .before .before .before .left-after-end .ensures) ∙ c .before .behind .given .1))
+loop-again c =
+    let at-left-after-end = c .before .before .before in
+    let at-loop-test = at-left-after-end .before .before in
+    let at-loop = at-loop-test .before in (
+      omega arith,
+      at-loop .loop .inv .1,
+      count-on endsLines slotLines no-ends more-ends _ _ _ _ (at-loop .loop .inv .2) none
+          (omega (arith, at-loop-test .loop-test .taken, at-loop .loop .inv .1)) _
+          (sym (at-left-after-end .left-after-end .ensures) ∙ c .before .behind .given .1),
+    )
 
 returns-2 : tie.Need-returns-2 Inv-loop μ-loop
-returns-2 c = count-out endsLines slotLines no-ends more-ends (c .before .before .args .t2) _ _ (c .before .loop .i) (c .before .loop .inv .2) (omega (arith, c .loop-test .left, c .before .loop .inv .1))
+returns-2 c = count-out endsLines slotLines no-ends more-ends (c .before .before .args .t2) _ _ (c .before .loop .i) (c .before .loop .inv .2)
+    (omega (arith, c .loop-test .left, c .before .loop .inv .1))
 
 pub left-after-ends-spec : {M : Type 1} → statement M
 left-after-ends-spec =

@@ -16,16 +16,25 @@ enum-known-end : tie.Need-enum-known-end
 enum-known-end c = search needs
 
 put-ending-requires : tie.Need-put-ending-requires
-put-ending-requires c κs = subst (λ (e : End). c .before .before .before .before .before .args .at + length (endLines e) ≤ length (c .before .before .before .before .before .args .out .now)) (c .before .before .end .given .1) (c .before .before .before .before .before .pre)
+put-ending-requires c κs =
+    let start = c .before .before .before .before .before in
+    subst (λ (e : End). start .args .at + length (endLines e) ≤ length (start .args .out .now)) (c .before .before .end .given .1) (start .pre)
 
 returns : tie.Need-returns
-returns c = subst (λ (e : End). PutAt (c .before .before .before .args .out .now) (c .before .before .before .args .at) (endLines e) (c .before .before .before .args .at) (c .before .before .before .args .out .now)) (sym (c .enum-told .given .1)) (record { place = omega arith; bytes = sym (put-nil _ _) })
+returns c =
+    let start = c .before .before .before in
+    subst (λ (e : End). PutAt (start .args .out .now) (start .args .at) (endLines e) (start .args .at) (start .args .out .now))
+    (sym (c .enum-told .given .1)) (record { place = omega arith; bytes = sym (put-nil _ _) })
 
 same-length : tie.Need-same-length
 same-length c = search needs
 
 returns-2 : tie.Need-returns-2
-returns-2 c = subst (λ (e : End). PutAt (c .before .before .before .before .before .before .before .before .args .out .now) (c .before .before .before .before .before .before .before .before .args .at) (endLines e) (c .before .before .put-ending .result) (c .before .before .put-ending .last .0)) (sym (c .before .before .before .before .before .end .given .1)) (c .before .before .put-ending .ensures)
+returns-2 c =
+    let at-end = c .before .before .before .before .before in
+    let start = at-end .before .before .before in
+    subst (λ (e : End). PutAt (start .args .out .now) (start .args .at) (endLines e) (c .before .before .put-ending .result)
+    (c .before .before .put-ending .last .0)) (sym (at-end .end .given .1)) (c .before .before .put-ending .ensures)
 
 pub put-end-spec : {M : Type 1} → statement M
 put-end-spec =

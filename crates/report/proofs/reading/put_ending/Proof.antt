@@ -24,7 +24,13 @@ slice-aggregate-put-plain-2 : tie.Need-slice-aggregate-put-plain-2
 slice-aggregate-put-plain-2 c = search needs
 
 put-plain-requires : tie.Need-put-plain-requires
-put-plain-requires c κs = subst (λ (l : List ℕ). c .before .before .before .before .before .before .before .args .at + length l ≤ length (c .before .before .before .before .before .before .before .args .out .now)) (ap (λ (k : Kind). lineOf (endingWord k) (endingNumbers (c .before .before .before .before .before .before .before .args .ending))) (c .before .before .before .enum-told .given .1) ∙ ap (lineOf (endingWord Rts)) (sym (c .before .before .before .before .before .ending-numbers .ensures))) (c .before .before .before .before .before .before .before .pre)
+put-plain-requires c κs =
+    let at-enum-told = c .before .before .before in
+    let at-ending-numbers = at-enum-told .before .before in
+    let start = at-ending-numbers .before .before in
+    subst (λ (l : List ℕ). start .args .at + length l ≤ length (start .args .out .now))
+    (ap (λ (k : Kind). lineOf (endingWord k) (endingNumbers (start .args .ending))) (at-enum-told .enum-told .given .1)
+    ∙ ap (lineOf (endingWord Rts)) (sym (at-ending-numbers .ending-numbers .ensures))) (start .pre)
 
 enum-told-2 : tie.Need-enum-told-2
 enum-told-2 c = search needs
@@ -36,19 +42,39 @@ slice-aggregate-put-plain-4 : tie.Need-slice-aggregate-put-plain-4
 slice-aggregate-put-plain-4 c = search needs
 
 put-plain-requires-2 : tie.Need-put-plain-requires-2
-put-plain-requires-2 c κs = subst (λ (l : List ℕ). c .before .before .before .before .before .before .before .args .at + length l ≤ length (c .before .before .before .before .before .before .before .args .out .now)) (ap (λ (k : Kind). lineOf (endingWord k) (endingNumbers (c .before .before .before .before .before .before .before .args .ending))) (c .before .before .before .enum-told2 .given .1) ∙ ap (lineOf (endingWord Bam)) (sym (c .before .before .before .before .before .ending-numbers .ensures))) (c .before .before .before .before .before .before .before .pre)
+put-plain-requires-2 c κs =
+    let at-enum-told2 = c .before .before .before in
+    let at-ending-numbers = at-enum-told2 .before .before in
+    let start = at-ending-numbers .before .before in
+    subst (λ (l : List ℕ). start .args .at + length l ≤ length (start .args .out .now))
+    (ap (λ (k : Kind). lineOf (endingWord k) (endingNumbers (start .args .ending))) (at-enum-told2 .enum-told2 .given .1)
+    ∙ ap (lineOf (endingWord Bam)) (sym (at-ending-numbers .ending-numbers .ensures))) (start .pre)
 
 same-length : tie.Need-same-length
 same-length c = search needs
 
 returns : tie.Need-returns
-returns c = subst (λ (l : List ℕ). PutAt (c .before .before .before .before .before .before .before .before .before .before .args .out .now) (c .before .before .before .before .before .before .before .before .before .before .args .at) l (c .before .before .put-plain .result) (c .before .before .put-plain .last .0)) (sym (ap (λ (k : Kind). lineOf (endingWord k) (endingNumbers (c .before .before .before .before .before .before .before .before .before .before .args .ending))) (c .before .before .before .before .before .before .enum-told .given .1) ∙ ap (lineOf (endingWord Rts)) (sym (c .before .before .before .before .before .before .before .before .ending-numbers .ensures)))) (c .before .before .put-plain .ensures)
+returns c =
+    let at-enum-told = c .before .before .before .before .before .before in
+    let at-ending-numbers = at-enum-told .before .before in
+    let start = at-ending-numbers .before .before in
+    subst (λ (l : List ℕ). PutAt (start .args .out .now) (start .args .at) l (c .before .before .put-plain .result)
+    (c .before .before .put-plain .last .0))
+    (sym (ap (λ (k : Kind). lineOf (endingWord k) (endingNumbers (start .args .ending))) (at-enum-told .enum-told .given .1)
+    ∙ ap (lineOf (endingWord Rts)) (sym (at-ending-numbers .ending-numbers .ensures)))) (c .before .before .put-plain .ensures)
 
 same-length-2 : tie.Need-same-length-2
 same-length-2 c = search needs
 
 returns-2 : tie.Need-returns-2
-returns-2 c = subst (λ (l : List ℕ). PutAt (c .before .before .before .before .before .before .before .before .before .before .args .out .now) (c .before .before .before .before .before .before .before .before .before .before .args .at) l (c .before .before .put-plain2 .result) (c .before .before .put-plain2 .last .0)) (sym (ap (λ (k : Kind). lineOf (endingWord k) (endingNumbers (c .before .before .before .before .before .before .before .before .before .before .args .ending))) (c .before .before .before .before .before .before .enum-told2 .given .1) ∙ ap (lineOf (endingWord Bam)) (sym (c .before .before .before .before .before .before .before .before .ending-numbers .ensures)))) (c .before .before .put-plain2 .ensures)
+returns-2 c =
+    let at-enum-told2 = c .before .before .before .before .before .before in
+    let at-ending-numbers = at-enum-told2 .before .before in
+    let start = at-ending-numbers .before .before in
+    subst (λ (l : List ℕ). PutAt (start .args .out .now) (start .args .at) l (c .before .before .put-plain2 .result)
+    (c .before .before .put-plain2 .last .0))
+    (sym (ap (λ (k : Kind). lineOf (endingWord k) (endingNumbers (start .args .ending))) (at-enum-told2 .enum-told2 .given .1)
+    ∙ ap (lineOf (endingWord Bam)) (sym (at-ending-numbers .ending-numbers .ensures)))) (c .before .before .put-plain2 .ensures)
 
 pub put-ending-spec : {M : Type 1} → statement M
 put-ending-spec =

@@ -26,7 +26,10 @@ array-copy-out-slot : tie.Need-array-copy-out-slot Inv-loop μ-loop
 array-copy-out-slot c = search needs
 
 put-end-requires : tie.Need-put-end-requires Inv-loop μ-loop
-put-end-requires c κs = walk-room endsLines slotLines no-ends more-ends _ _ _ (c .before .before .before .before .before .pre) _ _ _ (c .before .before .before .loop .inv .2) none (omega (arith, c .before .before .loop-test .taken, c .before .before .before .loop .inv .1))
+put-end-requires c κs =
+    let at-loop = c .before .before .before in
+    let start = at-loop .before .before in
+    walk-room endsLines slotLines no-ends more-ends _ _ _ (start .pre) _ _ _ (at-loop .loop .inv .2) none (omega (arith, c .before .before .loop-test .taken, at-loop .loop .inv .1))
 
 add-i : tie.Need-add-i Inv-loop μ-loop
 add-i c = search needs
@@ -35,13 +38,23 @@ loop-less : tie.Need-loop-less Inv-loop μ-loop
 loop-less c = search needs
 
 loop-again : tie.Need-loop-again Inv-loop μ-loop
-loop-again c = (omega arith, c .before .before .before .before .before .before .loop .inv .1, walk-on endsLines slotLines no-ends more-ends _ _ _ (c .before .before .before .before .before .before .before .before .pre) _ _ _ (c .before .before .before .before .before .before .loop .inv .2) none (omega (arith, c .before .before .before .before .before .loop-test .taken, c .before .before .before .before .before .before .loop .inv .1)) _ _ (c .before .before .put-end .ensures))
+loop-again c =
+    let at-loop-test = c .before .before .before .before .before in
+    let at-loop = at-loop-test .before in
+    let start = at-loop .before .before in (
+      omega arith,
+      at-loop .loop .inv .1,
+      walk-on endsLines slotLines no-ends more-ends _ _ _ (start .pre) _ _ _ (at-loop .loop .inv .2) none
+          (omega (arith, at-loop-test .loop-test .taken, at-loop .loop .inv .1)) _ _ (c .before .before .put-end .ensures),
+    )
 
 same-length : tie.Need-same-length Inv-loop μ-loop
 same-length c = c .before .loop .inv .2 .same
 
 returns : tie.Need-returns Inv-loop μ-loop
-returns c = walk-out endsLines slotLines no-ends more-ends _ _ (c .before .before .before .args .t3) (c .before .before .before .pre) _ _ (c .before .loop .i) (c .before .loop .inv .2) (omega (arith, c .loop-test .left, c .before .loop .inv .1))
+returns c =
+    let start = c .before .before .before in
+    walk-out endsLines slotLines no-ends more-ends _ _ (start .args .t3) (start .pre) _ _ (c .before .loop .i) (c .before .loop .inv .2) (omega (arith, c .loop-test .left, c .before .loop .inv .1))
 
 pub put-ends-spec : {M : Type 1} → statement M
 put-ends-spec =

@@ -19,16 +19,30 @@ enum-told-2 : tie.Need-enum-told-2
 enum-told-2 c = search needs
 
 returns-2 : tie.Need-returns-2
-returns-2 c = left-cut (c .before .before .before .before .before .args .out .now) (c .before .before .before .before .before .args .at) (endsLines (c .before .before .before .before .before .args .ends)) (c .before .before .before .if1 .left) (sym (c .before .before .left-after-ends .ensures) ∙ c .enum-told2 .given .1)
+returns-2 c =
+    let at-if1 = c .before .before .before in
+    let start = at-if1 .before .before in
+    left-cut (start .args .out .now) (start .args .at) (endsLines (start .args .ends)) (at-if1 .if1 .left) (sym (c .before .before .left-after-ends .ensures) ∙ c .enum-told2 .given .1)
 
 put-ends-requires : tie.Need-put-ends-requires
-put-ends-requires c κs = left-room (c .before .before .before .before .before .before .args .out .now) (c .before .before .before .before .before .before .args .at) (endsLines (c .before .before .before .before .before .before .args .ends)) (c .before .before .before .before .if1 .left) _ (sym (c .before .before .before .left-after-ends .ensures) ∙ c .before .enum-told .given .1)
+put-ends-requires c κs =
+    let at-left-after-ends = c .before .before .before in
+    let at-if1 = at-left-after-ends .before in
+    let start = at-if1 .before .before in
+    left-room (start .args .out .now) (start .args .at) (endsLines (start .args .ends)) (at-if1 .if1 .left) _ (sym (at-left-after-ends .left-after-ends .ensures) ∙ c .before .enum-told .given .1)
 
 same-length : tie.Need-same-length
 same-length c = search needs
 
 returns-3 : tie.Need-returns-3
-returns-3 c = placed-put (c .before .before .before .before .before .before .before .before .before .args .out .now) (c .before .before .before .before .before .before .before .before .before .args .at) (endsLines (c .before .before .before .before .before .before .before .before .before .args .ends)) (left-room (c .before .before .before .before .before .before .before .before .before .args .out .now) (c .before .before .before .before .before .before .before .before .before .args .at) (endsLines (c .before .before .before .before .before .before .before .before .before .args .ends)) (c .before .before .before .before .before .before .before .if1 .left) _ (sym (c .before .before .before .before .before .before .left-after-ends .ensures) ∙ c .before .before .before .before .enum-told .given .1)) _ _ (c .before .before .put-ends .ensures)
+returns-3 c =
+    let at-enum-told = c .before .before .before .before in
+    let at-left-after-ends = at-enum-told .before .before in
+    let at-if1 = at-left-after-ends .before in
+    let start = at-if1 .before .before in
+    placed-put (start .args .out .now) (start .args .at) (endsLines (start .args .ends))
+    (left-room (start .args .out .now) (start .args .at) (endsLines (start .args .ends)) (at-if1 .if1 .left) _
+    (sym (at-left-after-ends .left-after-ends .ensures) ∙ at-enum-told .enum-told .given .1)) _ _ (c .before .before .put-ends .ensures)
 
 pub write-ends-spec : {M : Type 1} → statement M
 write-ends-spec =

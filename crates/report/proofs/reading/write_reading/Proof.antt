@@ -22,13 +22,19 @@ same-length : tie.Need-same-length
 same-length c = search needs
 
 returns : tie.Need-returns
-returns c = placed-by (ap (λ (k : Acceptance). readingLines k (c .before .before .before .before .before .before .before .args .ends)) (c .before .before .before .before .enum-told .given .1)) (c .before .before .write-ends .ensures)
+returns c =
+    let at-enum-told = c .before .before .before .before in
+    let start = at-enum-told .before .before .before in
+    placed-by (ap (λ (k : Acceptance). readingLines k (start .args .ends)) (at-enum-told .enum-told .given .1)) (c .before .before .write-ends .ensures)
 
 same-length-2 : tie.Need-same-length-2
 same-length-2 c = search needs
 
 returns-2 : tie.Need-returns-2
-returns-2 c = placed-by (ap (λ (k : Acceptance). readingLines k (c .before .before .before .before .before .before .before .before .args .ends)) (c .before .before .before .before .before .answer .given .1)) (c .before .before .write-refused .ensures)
+returns-2 c =
+    let at-answer = c .before .before .before .before .before in
+    let start = at-answer .before .before .before in
+    placed-by (ap (λ (k : Acceptance). readingLines k (start .args .ends)) (at-answer .answer .given .1)) (c .before .before .write-refused .ensures)
 
 pub write-reading-spec : {M : Type 1} → statement M
 write-reading-spec =

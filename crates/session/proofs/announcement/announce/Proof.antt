@@ -36,11 +36,26 @@ reject-requires c κs = search needs
 
 returns-2 : tie.Need-returns-2
 unfolding announcedTo
-returns-2 c = let a = c .before .before .before .before .before .before .args in else _ _ _ _ (sym (c .before .before .before .before .before .is-misdirected .ensures) ∙ c .before .before .before .before .if1 .left) (c .for-key .ensures ∙ ap (λ (f : Form). onForm f (a .x) (a .room) (a .k) (a .a) (a .last)) (sym (c .before .enum-told .given .1) ∙ c .before .before .before .judge-form .ensures))
+returns-2 c =
+    let at-judge-form = c .before .before .before in
+    let at-if1 = at-judge-form .before in
+    let at-is-misdirected = at-if1 .before in
+    let start = at-is-misdirected .before in
+    let a = start .args in else _ _ _ _ (sym (at-is-misdirected .is-misdirected .ensures) ∙ at-if1 .if1 .left)
+    (c .for-key .ensures ∙ ap (λ (f : Form). onForm f (a .x) (a .room) (a .k) (a .a) (a .last))
+    (sym (c .before .enum-told .given .1) ∙ at-judge-form .judge-form .ensures))
 
 returns-3 : tie.Need-returns-3
 unfolding announcedTo
-returns-3 c = let a = c .before .before .before .before .before .before .before .args in else _ _ _ _ (sym (c .before .before .before .before .before .before .is-misdirected .ensures) ∙ c .before .before .before .before .before .if1 .left) (ap stays (c .reject .ensures) ∙ ap (λ (f : Form). onForm f (a .x) (a .room) (a .k) (a .a) (a .last)) (sym (c .before .before .n .given .1) ∙ c .before .before .before .before .judge-form .ensures))
+returns-3 c =
+    let at-judge-form = c .before .before .before .before in
+    let at-if1 = at-judge-form .before in
+    let at-is-misdirected = at-if1 .before in
+    let start = at-is-misdirected .before in
+    let a = start .args in else _ _ _ _ (sym (at-is-misdirected .is-misdirected .ensures) ∙ at-if1 .if1 .left)
+    (ap stays (c .reject .ensures)
+    ∙ ap (λ (f : Form). onForm f (a .x) (a .room) (a .k) (a .a) (a .last))
+    (sym (c .before .before .n .given .1) ∙ at-judge-form .judge-form .ensures))
 
 pub announce-spec : {M : Type 1} → statement M
 announce-spec =

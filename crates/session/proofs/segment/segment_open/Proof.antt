@@ -29,13 +29,22 @@ take-requires : tie.Need-take-requires
 take-requires c κs = search needs
 
 returns : tie.Need-returns
-returns c = let a = c .before .before .before .before .args in ap (λ (j : Judged). onJudged j (a .s) (a .n .0) (a .last)) (sym (c .before .x .given .1) ∙ c .before .before .before .judge-segment .ensures)
+returns c =
+    let at-judge-segment = c .before .before .before in
+    let start = at-judge-segment .before in
+    let a = start .args in ap (λ (j : Judged). onJudged j (a .s) (a .n .0) (a .last)) (sym (c .before .x .given .1) ∙ at-judge-segment .judge-segment .ensures)
 
 returns-2 : tie.Need-returns-2
-returns-2 c = let a = c .before .before .before .before .before .args in c .end-by .ensures ∙ ap (λ (j : Judged). onJudged j (a .s) (a .n .0) (a .last)) (sym (c .before .before .x2 .given .1) ∙ c .before .before .before .before .judge-segment .ensures)
+returns-2 c =
+    let at-judge-segment = c .before .before .before .before in
+    let start = at-judge-segment .before in
+    let a = start .args in c .end-by .ensures ∙ ap (λ (j : Judged). onJudged j (a .s) (a .n .0) (a .last)) (sym (c .before .before .x2 .given .1) ∙ at-judge-segment .judge-segment .ensures)
 
 returns-3 : tie.Need-returns-3
-returns-3 c = let a = c .before .before .before .before .args in c .take .ensures ∙ ap (λ (j : Judged). onJudged j (a .s) (a .n .0) (a .last)) (sym (c .before .enum-told .given .1) ∙ c .before .before .before .judge-segment .ensures)
+returns-3 c =
+    let at-judge-segment = c .before .before .before in
+    let start = at-judge-segment .before in
+    let a = start .args in c .take .ensures ∙ ap (λ (j : Judged). onJudged j (a .s) (a .n .0) (a .last)) (sym (c .before .enum-told .given .1) ∙ at-judge-segment .judge-segment .ensures)
 
 pub segment-open-spec : {M : Type 1} → statement M
 segment-open-spec =

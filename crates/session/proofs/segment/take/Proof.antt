@@ -22,7 +22,9 @@ next-cts-requires : tie.Need-next-cts-requires
 next-cts-requires c κs = search needs
 
 returns : tie.Need-returns
-returns c = step (ap Moves (c .before .before .before .brought-forward .ensures)) (then _ _ _ _ (sym (c .before .before .is-cts-due .ensures) ∙ c .before .if1 .taken) (ap Grant (c .next-cts .ensures)))
+returns c =
+    let at-brought-forward = c .before .before .before in
+    step (ap Moves (at-brought-forward .brought-forward .ensures)) (then _ _ _ _ (sym (c .before .before .is-cts-due .ensures) ∙ c .before .if1 .taken) (ap Grant (c .next-cts .ensures)))
 
 returns-2 : tie.Need-returns-2
 returns-2 c = step (ap Moves (c .before .before .before .brought-forward .ensures)) (else _ _ _ _ (sym (c .before .before .is-cts-due .ensures) ∙ c .before .if1 .left) refl)

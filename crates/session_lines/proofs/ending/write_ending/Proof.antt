@@ -38,13 +38,23 @@ same-length : tie.Need-same-length
 same-length c = search needs
 
 returns : tie.Need-returns
-returns c = placed-by (ap (λ (k : Kind). lineOf (endingWord k) (endingNumbers (c .before .before .before .before .before .before .before .before .before .before .args .ending))) (c .before .before .before .before .before .before .enum-told .given .1) ∙ ap (lineOf (endingWord Rts)) (sym (c .before .before .before .before .before .before .before .before .ending-numbers .ensures))) (c .before .before .write-plain .ensures)
+returns c =
+    let at-enum-told = c .before .before .before .before .before .before in
+    let at-ending-numbers = at-enum-told .before .before in
+    let start = at-ending-numbers .before .before in
+    placed-by (ap (λ (k : Kind). lineOf (endingWord k) (endingNumbers (start .args .ending))) (at-enum-told .enum-told .given .1)
+    ∙ ap (lineOf (endingWord Rts)) (sym (at-ending-numbers .ending-numbers .ensures))) (c .before .before .write-plain .ensures)
 
 same-length-2 : tie.Need-same-length-2
 same-length-2 c = search needs
 
 returns-2 : tie.Need-returns-2
-returns-2 c = placed-by (ap (λ (k : Kind). lineOf (endingWord k) (endingNumbers (c .before .before .before .before .before .before .before .before .before .before .args .ending))) (c .before .before .before .before .before .before .enum-told2 .given .1) ∙ ap (lineOf (endingWord Bam)) (sym (c .before .before .before .before .before .before .before .before .ending-numbers .ensures))) (c .before .before .write-plain2 .ensures)
+returns-2 c =
+    let at-enum-told2 = c .before .before .before .before .before .before in
+    let at-ending-numbers = at-enum-told2 .before .before in
+    let start = at-ending-numbers .before .before in
+    placed-by (ap (λ (k : Kind). lineOf (endingWord k) (endingNumbers (start .args .ending))) (at-enum-told2 .enum-told2 .given .1)
+    ∙ ap (lineOf (endingWord Bam)) (sym (at-ending-numbers .ending-numbers .ensures))) (c .before .before .write-plain2 .ensures)
 
 pub write-ending-spec : {M : Type 1} → statement M
 write-ending-spec =

@@ -32,7 +32,10 @@ same-length : tie.Need-same-length
 same-length c = search needs
 
 returns : tie.Need-returns
-returns c = placed-by (ap (λ (n : ℕ). sessionLine abortWord (c .before .before .before .before .before .before .before .before .before .before .args .rejection .key) (n ∷ [])) (sym (c .before .before .before .before .before .before .before .before .number .ensures))) (c .before .before .write-plain .ensures)
+returns c =
+    let at-number = c .before .before .before .before .before .before .before .before in
+    let start = at-number .before .before in
+    placed-by (ap (λ (n : ℕ). sessionLine abortWord (start .args .rejection .key) (n ∷ [])) (sym (at-number .number .ensures))) (c .before .before .write-plain .ensures)
 
 pub write-rejection-spec : {M : Type 1} → statement M
 write-rejection-spec =

@@ -35,7 +35,11 @@ same-length : tie.Need-same-length
 same-length c = search needs
 
 returns : tie.Need-returns
-returns c = placed-by (ap (λ (l : List ℕ). sessionLine eomaWord (c .before .before .before .before .before .before .before .before .before .before .before .before .before .args .m .key) [] ++ lineOf msgWord (l ++ c .before .before .before .before .before .before .before .before .before .before .before .before .before .args .bytes .now)) (sym (c .before .before .before .before .before .before .before .before .message-numbers .ensures))) (c .before .before .write-two .ensures)
+returns c =
+    let at-message-numbers = c .before .before .before .before .before .before .before .before in
+    let start = at-message-numbers .before .before .before .before .before in
+    placed-by (ap (λ (l : List ℕ). sessionLine eomaWord (start .args .m .key) [] ++ lineOf msgWord (l ++ start .args .bytes .now))
+    (sym (at-message-numbers .message-numbers .ensures))) (c .before .before .write-two .ensures)
 
 pub write-acknowledged-spec : {M : Type 1} → statement M
 write-acknowledged-spec =

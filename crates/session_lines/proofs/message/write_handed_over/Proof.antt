@@ -26,14 +26,20 @@ same-length c = search needs
 
 returns : tie.Need-returns
 returns c =
-    placed-by (ap (λ (k : Kind). cond (isRts k) (sessionLine eomaWord (c .before .before .before .before .before .before .before .before .args .m .key) []) [] ++ messageLine (c .before .before .before .before .before .before .before .before .args .m) (c .before .before .before .before .before .before .before .before .args .bytes .now)) (c .before .before .before .before .enum-told .given .1)) (c .before .before .write-acknowledged .ensures)
+    let at-enum-told = c .before .before .before .before in
+    let start = at-enum-told .before .before .before .before in
+    placed-by (ap (λ (k : Kind). cond (isRts k) (sessionLine eomaWord (start .args .m .key) []) [] ++ messageLine (start .args .m)
+    (start .args .bytes .now)) (at-enum-told .enum-told .given .1)) (c .before .before .write-acknowledged .ensures)
 
 same-length-2 : tie.Need-same-length-2
 same-length-2 c = search needs
 
 returns-2 : tie.Need-returns-2
 returns-2 c =
-    placed-by (ap (λ (k : Kind). cond (isRts k) (sessionLine eomaWord (c .before .before .before .before .before .before .before .before .args .m .key) []) [] ++ messageLine (c .before .before .before .before .before .before .before .before .args .m) (c .before .before .before .before .before .before .before .before .args .bytes .now)) (c .before .before .before .before .enum-told2 .given .1)) (c .before .before .write-message .ensures)
+    let at-enum-told2 = c .before .before .before .before in
+    let start = at-enum-told2 .before .before .before .before in
+    placed-by (ap (λ (k : Kind). cond (isRts k) (sessionLine eomaWord (start .args .m .key) []) [] ++ messageLine (start .args .m)
+    (start .args .bytes .now)) (at-enum-told2 .enum-told2 .given .1)) (c .before .before .write-message .ensures)
 
 pub write-handed-over-spec : {M : Type 1} → statement M
 write-handed-over-spec =

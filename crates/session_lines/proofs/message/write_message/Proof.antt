@@ -23,7 +23,10 @@ same-length : tie.Need-same-length
 same-length c = search needs
 
 returns : tie.Need-returns
-returns c = placed-by (ap (λ (l : List ℕ). lineOf msgWord (l ++ c .before .before .before .before .before .before .before .before .before .args .bytes .now)) (sym (c .before .before .before .before .before .before .message-numbers .ensures))) (c .before .before .write-line .ensures)
+returns c =
+    let at-message-numbers = c .before .before .before .before .before .before in
+    let start = at-message-numbers .before .before .before in
+    placed-by (ap (λ (l : List ℕ). lineOf msgWord (l ++ start .args .bytes .now)) (sym (at-message-numbers .message-numbers .ensures))) (c .before .before .write-line .ensures)
 
 pub write-message-spec : {M : Type 1} → statement M
 write-message-spec =

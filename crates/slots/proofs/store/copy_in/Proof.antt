@@ -24,7 +24,12 @@ same-length : tie.Need-same-length
 same-length c = search needs
 
 returns : tie.Need-returns
-returns c = copied-twice _ (now (c .before .before .before .before .before .before .before .before .before .before .before .args .part)) (replicate 60 0) (c .before .before .before .before .before .before .copy .last .0) (drop 4 (now (c .before .before .before .before .before .before .before .before .before .before .before .args .bytes))) (c .before .before .before .before .before .before .before .before .before .before .before .args .at) (c .before .before .before .before .before .before .before .before .before .before .before .args .n) 60 (c .before .before .before .before .before .before .before .before .if1 .taken) (simp length-drop (omega arith)) (c .before .before .before .before .before .before .copy .ensures) (c .before .before .copy2 .ensures)
+returns c =
+    let at-copy = c .before .before .before .before .before .before in
+    let at-if1 = at-copy .before .before in
+    let start = at-if1 .before .before .before in
+    copied-twice _ (now (start .args .part)) (replicate 60 0) (at-copy .copy .last .0) (drop 4 (now (start .args .bytes))) (start .args .at)
+    (start .args .n) 60 (at-if1 .if1 .taken) (simp length-drop (omega arith)) (at-copy .copy .ensures) (c .before .before .copy2 .ensures)
 
 copy-requires-3 : tie.Need-copy-requires-3
 copy-requires-3 c κs = search needs

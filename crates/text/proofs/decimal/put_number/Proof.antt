@@ -10,7 +10,7 @@ use Rattle.text.specs.Put.{put, PutAt, put-nil, put-before, length-put}
 use Rattle.text.proofs.decimal.put_number.Statement.{statement}
 use Rattle.text.proofs.decimal.put_number.Tie as tie
 
--- In a turn with i next: the digits behind i are in place, and those before it are those of what is left.
+-- In a turn with i next: the digits after i are in place, and those before it are those of what is left.
 record Writing (d : List ℕ) (at n end : ℕ) (out : List ℕ) (left i : ℕ) : Type 0 where
   low : at ≤ i
   high : i ≤ end

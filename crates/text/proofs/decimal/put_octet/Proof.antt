@@ -44,7 +44,9 @@ same-length-2 : tie.Need-same-length-2
 same-length-2 c = search needs
 
 returns-2 : tie.Need-returns-2
-returns-2 c = put-by (decimal-two (c .before .before .args .n) (c .before .if1 .left) (c .if2 .taken)) (put-set-two _ _ _ _ (omega (arith, c .before .before .pre, ap length (decimal-two (c .before .before .args .n) (c .before .if1 .left) (c .if2 .taken)))))
+returns-2 c = put-by (decimal-two (c .before .before .args .n) (c .before .if1 .left) (c .if2 .taken))
+    (put-set-two _ _ _ _ (omega
+    (arith, c .before .before .pre, ap length (decimal-two (c .before .before .args .n) (c .before .if1 .left) (c .if2 .taken)))))
 
 add-out-5 : tie.Need-add-out-5
 add-out-5 c = search needs
@@ -77,7 +79,14 @@ same-length-3 : tie.Need-same-length-3
 same-length-3 c = search needs
 
 returns-3 : tie.Need-returns-3
-returns-3 c = put-by (decimal-three (c .before .before .args .n) (c .if2 .left) (omega (arith, c .before .before .fits .n))) (put-set-three _ _ _ _ _ (omega (arith, c .before .before .pre, ap length (decimal-three (c .before .before .args .n) (c .if2 .left) (omega (arith, c .before .before .fits .n))))))
+returns-3 c = put-by (decimal-three (c .before .before .args .n) (c .if2 .left) (omega (arith, c .before .before .fits .n)))
+    (put-set-three _ _ _ _ _
+    (omega (
+      arith,
+      c .before .before .pre,
+      ap length
+          (decimal-three (c .before .before .args .n) (c .if2 .left) (omega (arith, c .before .before .fits .n))),
+    )))
 
 pub put-octet-spec : {M : Type 1} → statement M
 put-octet-spec =

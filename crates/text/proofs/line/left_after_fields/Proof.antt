@@ -28,7 +28,10 @@ width-requires : tie.Need-width-requires Inv-loop μ-loop
 width-requires c κs = search needs
 
 returns : tie.Need-returns Inv-loop μ-loop
-returns c = count-cut numbers spaced no-numbers more-numbers _ _ _ _ (c .before .before .before .before .loop .inv .1) 0 (c .before .before .before .loop-test .taken) (spaced-short _ _ _ (c .before .width .ensures) (c .if1 .taken))
+returns c =
+    let at-loop-test = c .before .before .before in
+    let at-loop = at-loop-test .before in
+    count-cut numbers spaced no-numbers more-numbers _ _ _ _ (at-loop .loop .inv .1) 0 (at-loop-test .loop-test .taken) (spaced-short _ _ _ (c .before .width .ensures) (c .if1 .taken))
 
 sub-left : tie.Need-sub-left Inv-loop μ-loop
 sub-left c = search needs
@@ -43,7 +46,10 @@ loop-less : tie.Need-loop-less Inv-loop μ-loop
 loop-less c = search needs
 
 loop-again : tie.Need-loop-again Inv-loop μ-loop
-loop-again c = (omega arith, count-on numbers spaced no-numbers more-numbers _ _ _ _ (c .before .before .before .before .loop .inv .1) 0 (c .before .before .before .loop-test .taken) _ (spaced-left _ _ _ (c .before .width .ensures) (c .if1 .left)))
+loop-again c =
+    let at-loop-test = c .before .before .before in
+    let at-loop = at-loop-test .before in
+    (omega arith, count-on numbers spaced no-numbers more-numbers _ _ _ _ (at-loop .loop .inv .1) 0 (at-loop-test .loop-test .taken) _ (spaced-left _ _ _ (c .before .width .ensures) (c .if1 .left)))
 
 returns-2 : tie.Need-returns-2 Inv-loop μ-loop
 returns-2 c = count-out numbers spaced no-numbers more-numbers _ _ _ _ (c .before .loop .inv .1) (c .loop-test .left)

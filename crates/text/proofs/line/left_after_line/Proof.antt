@@ -5,7 +5,9 @@ use Rattle.text.proofs.line.left_after_line.Statement.{statement}
 use Rattle.text.proofs.line.left_after_line.Tie as tie
 
 returns : tie.Need-returns
-returns c = line-cut (c .before .before .before .before .args .word .now) (c .before .before .before .before .args .fields .now) (c .before .before .before .before .args .octets .now) _ (c .if1 .taken)
+returns c =
+    let start = c .before .before .before .before in
+    line-cut (start .args .word .now) (start .args .fields .now) (start .args .octets .now) _ (c .if1 .taken)
 
 sub-behind : tie.Need-sub-behind
 sub-behind c = search needs
@@ -29,7 +31,10 @@ left-after-octets-requires : tie.Need-left-after-octets-requires
 left-after-octets-requires c κs = search needs
 
 returns-3 : tie.Need-returns-3
-returns-3 c = c .left-after-octets .ensures ∙ line-left _ _ _ _ (c .before .before .before .before .before .if1 .left) _ (sym (c .before .before .before .before .left-after-fields .ensures) ∙ c .before .before .left .given .1)
+returns-3 c =
+    let at-left-after-fields = c .before .before .before .before in
+    let at-if1 = at-left-after-fields .before in
+    c .left-after-octets .ensures ∙ line-left _ _ _ _ (at-if1 .if1 .left) _ (sym (at-left-after-fields .left-after-fields .ensures) ∙ c .before .before .left .given .1)
 
 pub left-after-line-spec : {M : Type 1} → statement M
 left-after-line-spec =

@@ -14,7 +14,9 @@ left-after-line-requires : tie.Need-left-after-line-requires
 left-after-line-requires c κs = search needs
 
 returns : tie.Need-returns
-returns c = c .left-after-line .ensures ∙ ap (λ (ns : List ℕ). leftBy (c .before .before .before .before .args .room) (length (lineOf (c .before .before .before .before .args .word .now) ns))) (append-nil (c .before .before .before .before .args .fields .now))
+returns c =
+    let start = c .before .before .before .before in
+    c .left-after-line .ensures ∙ ap (λ (ns : List ℕ). leftBy (start .args .room) (length (lineOf (start .args .word .now) ns))) (append-nil (start .args .fields .now))
 
 pub left-after-plain-spec : {M : Type 1} → statement M
 left-after-plain-spec =

@@ -27,24 +27,36 @@ put-octets-requires c κs =
 
 slice-write-out : tie.Need-slice-write-out
 slice-write-out c =
-    let e = c .before .before .before .before .before .before .before .before .before .before .before .before .before .before .before .before in
-    feed-room _ _ _ _ _ (e .pre) _ _ (put-copied _ _ _ (c .before .before .before .before .before .before .before .before .before .before .copy .ensures)) _ _ (c .before .before .before .before .before .before .put-fields .ensures) _ _ (c .before .before .put-octets .ensures)
+    let at-put-fields = c .before .before .before .before .before .before in
+    let at-copy = at-put-fields .before .before .before .before in
+    let at-before = at-copy .before .before .before .before .before in
+    let e = at-before .before in
+    feed-room _ _ _ _ _ (e .pre) _ _ (put-copied _ _ _ (at-copy .copy .ensures)) _ _ (at-put-fields .put-fields .ensures) _ _ (c .before .before .put-octets .ensures)
 
 add-result : tie.Need-add-result
 add-result c =
-    let e = c .before .before .before .before .before .before .before .before .before .before .before .before .before .before .before .before in
-    let h = line-put _ _ _ _ _ (e .pre) _ _ (put-copied _ _ _ (c .before .before .before .before .before .before .before .before .before .before .copy .ensures)) _ _ (c .before .before .before .before .before .before .put-fields .ensures) _ _ (c .before .before .put-octets .ensures) .place in
+    let at-put-fields = c .before .before .before .before .before .before in
+    let at-copy = at-put-fields .before .before .before .before in
+    let at-before = at-copy .before .before .before .before .before in
+    let e = at-before .before in
+    let h = line-put _ _ _ _ _ (e .pre) _ _ (put-copied _ _ _ (at-copy .copy .ensures)) _ _ (at-put-fields .put-fields .ensures) _ _ (c .before .before .put-octets .ensures) .place in
     omega (arith, h, e .pre, e .good .0 .0)
 
 same-length : tie.Need-same-length
 same-length c =
-    let e = c .before .before .before .before .before .before .before .before .before .before .before .before .before .before .before .before in
-    put-same _ _ _ _ _ (e .pre) (line-put _ _ _ _ _ (e .pre) _ _ (put-copied _ _ _ (c .before .before .before .before .before .before .before .before .before .before .copy .ensures)) _ _ (c .before .before .before .before .before .before .put-fields .ensures) _ _ (c .before .before .put-octets .ensures))
+    let at-put-fields = c .before .before .before .before .before .before in
+    let at-copy = at-put-fields .before .before .before .before in
+    let at-before = at-copy .before .before .before .before .before in
+    let e = at-before .before in
+    put-same _ _ _ _ _ (e .pre) (line-put _ _ _ _ _ (e .pre) _ _ (put-copied _ _ _ (at-copy .copy .ensures)) _ _ (at-put-fields .put-fields .ensures) _ _ (c .before .before .put-octets .ensures))
 
 returns : tie.Need-returns
 returns c =
-    let e = c .before .before .before .before .before .before .before .before .before .before .before .before .before .before .before .before in
-    line-put _ _ _ _ _ (e .pre) _ _ (put-copied _ _ _ (c .before .before .before .before .before .before .before .before .before .before .copy .ensures)) _ _ (c .before .before .before .before .before .before .put-fields .ensures) _ _ (c .before .before .put-octets .ensures)
+    let at-put-fields = c .before .before .before .before .before .before in
+    let at-copy = at-put-fields .before .before .before .before in
+    let at-before = at-copy .before .before .before .before .before in
+    let e = at-before .before in
+    line-put _ _ _ _ _ (e .pre) _ _ (put-copied _ _ _ (at-copy .copy .ensures)) _ _ (at-put-fields .put-fields .ensures) _ _ (c .before .before .put-octets .ensures)
 
 pub put-line-spec : {M : Type 1} → statement M
 put-line-spec =

@@ -12,13 +12,18 @@ slice-aggregate-put-line : tie.Need-slice-aggregate-put-line
 slice-aggregate-put-line c = search needs
 
 put-line-requires : tie.Need-put-line-requires
-put-line-requires c κs = subst (λ (ns : List ℕ). c .before .before .before .before .before .args .at + length (lineOf (c .before .before .before .before .before .args .word .now) ns) ≤ length (c .before .before .before .before .before .args .out .now)) (sym (append-nil (c .before .before .before .before .before .args .fields .now))) (c .before .before .before .before .before .pre)
+put-line-requires c κs =
+    let start = c .before .before .before .before .before in
+    subst (λ (ns : List ℕ). start .args .at + length (lineOf (start .args .word .now) ns) ≤ length (start .args .out .now)) (sym (append-nil (start .args .fields .now))) (start .pre)
 
 same-length : tie.Need-same-length
 same-length c = search needs
 
 returns : tie.Need-returns
-returns c = subst (λ (ns : List ℕ). PutAt (c .before .before .before .before .before .before .before .before .args .out .now) (c .before .before .before .before .before .before .before .before .args .at) (lineOf (c .before .before .before .before .before .before .before .before .args .word .now) ns) (c .before .before .put-line .result) (c .before .before .put-line .last .0)) (append-nil (c .before .before .before .before .before .before .before .before .args .fields .now)) (c .before .before .put-line .ensures)
+returns c =
+    let start = c .before .before .before .before .before .before .before .before in
+    subst (λ (ns : List ℕ). PutAt (start .args .out .now) (start .args .at) (lineOf (start .args .word .now) ns) (c .before .before .put-line .result)
+    (c .before .before .put-line .last .0)) (append-nil (start .args .fields .now)) (c .before .before .put-line .ensures)
 
 pub put-plain-spec : {M : Type 1} → statement M
 put-plain-spec =

@@ -16,7 +16,11 @@ same-length : tie.Need-same-length
 same-length c = search needs
 
 returns : tie.Need-returns
-returns c = subst (λ (ns : List ℕ). Placed (c .before .before .before .before .before .before .before .before .args .out .now) (c .before .before .before .before .before .before .before .before .args .at) (lineOf (c .before .before .before .before .before .before .before .before .args .word .now) ns) (c .before .before .write-line .result) (c .before .before .write-line .last .0)) (append-nil (c .before .before .before .before .before .before .before .before .args .fields .now)) (c .before .before .write-line .ensures)
+returns c =
+    let start = c .before .before .before .before .before .before .before .before in
+    subst (λ (ns : List ℕ). Placed (start .args .out .now) (start .args .at) (lineOf (start .args .word .now) ns)
+    (c .before .before .write-line .result) (c .before .before .write-line .last .0)) (append-nil (start .args .fields .now))
+    (c .before .before .write-line .ensures)
 
 pub write-plain-spec : {M : Type 1} → statement M
 write-plain-spec =

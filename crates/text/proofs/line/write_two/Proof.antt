@@ -7,7 +7,11 @@ use Rattle.text.proofs.line.write_two.Statement.{statement}
 use Rattle.text.proofs.line.write_two.Tie as tie
 
 returns : tie.Need-returns
-returns c = placed-short (c .before .before .before .before .before .before .before .args .out .now) (c .before .before .before .before .before .before .before .args .at) ((lineOf (c .before .before .before .before .before .before .before .args .first .now) (c .before .before .before .before .before .before .before .args .counts .now)) ++ (lineOf (c .before .before .before .before .before .before .before .args .word .now) (c .before .before .before .before .before .before .before .args .fields .now ++ c .before .before .before .before .before .before .before .args .octets .now))) (omega (arith, c .if1 .taken))
+returns c =
+    let start = c .before .before .before .before .before .before .before in
+    placed-short (start .args .out .now) (start .args .at)
+    ((lineOf (start .args .first .now) (start .args .counts .now)) ++
+    (lineOf (start .args .word .now) (start .args .fields .now ++ start .args .octets .now))) (omega (arith, c .if1 .taken))
 
 left-after-plain-requires : tie.Need-left-after-plain-requires
 left-after-plain-requires c κs = search needs
@@ -19,7 +23,12 @@ enum-told : tie.Need-enum-told
 enum-told c = search needs
 
 returns-2 : tie.Need-returns-2
-returns-2 c = first-short (c .before .before .before .before .before .before .before .before .before .before .args .out .now) (c .before .before .before .before .before .before .before .before .before .before .args .at) (lineOf (c .before .before .before .before .before .before .before .before .before .before .args .first .now) (c .before .before .before .before .before .before .before .before .before .before .args .counts .now)) (lineOf (c .before .before .before .before .before .before .before .before .before .before .args .word .now) (c .before .before .before .before .before .before .before .before .before .before .args .fields .now ++ c .before .before .before .before .before .before .before .before .before .before .args .octets .now)) (c .before .before .before .if1 .left) (sym (c .before .before .left-after-plain .ensures) ∙ c .enum-told .given .1)
+returns-2 c =
+    let at-if1 = c .before .before .before in
+    let start = at-if1 .before .before .before .before .before .before .before in
+    first-short (start .args .out .now) (start .args .at) (lineOf (start .args .first .now) (start .args .counts .now))
+    (lineOf (start .args .word .now) (start .args .fields .now ++ start .args .octets .now)) (at-if1 .if1 .left)
+    (sym (c .before .before .left-after-plain .ensures) ∙ c .enum-told .given .1)
 
 left-after-line-requires : tie.Need-left-after-line-requires
 left-after-line-requires c κs = search needs
@@ -31,19 +40,57 @@ enum-told-3 : tie.Need-enum-told-3
 enum-told-3 c = search needs
 
 returns-3 : tie.Need-returns-3
-returns-3 c = second-short (c .before .before .before .before .before .before .before .before .before .before .before .before .before .before .args .out .now) (c .before .before .before .before .before .before .before .before .before .before .before .before .before .before .args .at) (lineOf (c .before .before .before .before .before .before .before .before .before .before .before .before .before .before .args .first .now) (c .before .before .before .before .before .before .before .before .before .before .before .before .before .before .args .counts .now)) (lineOf (c .before .before .before .before .before .before .before .before .before .before .before .before .before .before .args .word .now) (c .before .before .before .before .before .before .before .before .before .before .before .before .before .before .args .fields .now ++ c .before .before .before .before .before .before .before .before .before .before .before .before .before .before .args .octets .now)) (c .before .before .before .before .before .before .before .if1 .left) _ (sym (c .before .before .before .before .before .before .left-after-plain .ensures) ∙ c .before .before .before .before .left .given .1) (sym (c .before .before .left-after-line .ensures) ∙ c .enum-told3 .given .1)
+returns-3 c =
+    let at-left = c .before .before .before .before in
+    let at-left-after-plain = at-left .before .before in
+    let at-if1 = at-left-after-plain .before in
+    let start = at-if1 .before .before .before .before .before .before .before in
+    second-short (start .args .out .now) (start .args .at) (lineOf (start .args .first .now) (start .args .counts .now))
+    (lineOf (start .args .word .now) (start .args .fields .now ++ start .args .octets .now)) (at-if1 .if1 .left) _
+    (sym (at-left-after-plain .left-after-plain .ensures) ∙ at-left .left .given .1)
+    (sym (c .before .before .left-after-line .ensures) ∙ c .enum-told3 .given .1)
 
 put-plain-requires : tie.Need-put-plain-requires
-put-plain-requires c κs = first-room (c .before .before .before .before .before .before .before .before .before .before .before .before .before .before .before .args .out .now) (c .before .before .before .before .before .before .before .before .before .before .before .before .before .before .before .args .at) (lineOf (c .before .before .before .before .before .before .before .before .before .before .before .before .before .before .before .args .first .now) (c .before .before .before .before .before .before .before .before .before .before .before .before .before .before .before .args .counts .now)) (lineOf (c .before .before .before .before .before .before .before .before .before .before .before .before .before .before .before .args .word .now) (c .before .before .before .before .before .before .before .before .before .before .before .before .before .before .before .args .fields .now ++ c .before .before .before .before .before .before .before .before .before .before .before .before .before .before .before .args .octets .now)) (c .before .before .before .before .before .before .before .before .if1 .left) _ (sym (c .before .before .before .before .before .before .before .left-after-plain .ensures) ∙ c .before .before .before .before .before .left .given .1)
+put-plain-requires c κs =
+    let at-left = c .before .before .before .before .before in
+    let at-left-after-plain = at-left .before .before in
+    let at-if1 = at-left-after-plain .before in
+    let start = at-if1 .before .before .before .before .before .before .before in
+    first-room (start .args .out .now) (start .args .at) (lineOf (start .args .first .now) (start .args .counts .now))
+    (lineOf (start .args .word .now) (start .args .fields .now ++ start .args .octets .now)) (at-if1 .if1 .left) _
+    (sym (at-left-after-plain .left-after-plain .ensures) ∙ at-left .left .given .1)
 
 put-line-requires : tie.Need-put-line-requires
-put-line-requires c κs = second-room (c .before .before .before .before .before .before .before .before .before .before .before .before .before .before .before .before .before .before .before .args .out .now) (c .before .before .before .before .before .before .before .before .before .before .before .before .before .before .before .before .before .before .before .args .at) (lineOf (c .before .before .before .before .before .before .before .before .before .before .before .before .before .before .before .before .before .before .before .args .first .now) (c .before .before .before .before .before .before .before .before .before .before .before .before .before .before .before .before .before .before .before .args .counts .now)) (lineOf (c .before .before .before .before .before .before .before .before .before .before .before .before .before .before .before .before .before .before .before .args .word .now) (c .before .before .before .before .before .before .before .before .before .before .before .before .before .before .before .before .before .before .before .args .fields .now ++ c .before .before .before .before .before .before .before .before .before .before .before .before .before .before .before .before .before .before .before .args .octets .now)) (c .before .before .before .before .before .before .before .before .before .before .before .before .if1 .left) _ (sym (c .before .before .before .before .before .before .before .before .before .before .before .left-after-plain .ensures) ∙ c .before .before .before .before .before .before .before .before .before .left .given .1) _ (sym (c .before .before .before .before .before .before .before .left-after-line .ensures) ∙ c .before .before .before .before .before .enum-told2 .given .1) _ _ (c .before .before .before .put-plain .ensures)
+put-line-requires c κs =
+    let at-put-plain = c .before .before .before in
+    let at-enum-told2 = at-put-plain .before .before in
+    let at-left-after-line = at-enum-told2 .before .before in
+    let at-left = at-left-after-line .before .before in
+    let at-left-after-plain = at-left .before .before in
+    let at-if1 = at-left-after-plain .before in
+    let start = at-if1 .before .before .before .before .before .before .before in
+    second-room (start .args .out .now) (start .args .at) (lineOf (start .args .first .now) (start .args .counts .now))
+    (lineOf (start .args .word .now) (start .args .fields .now ++ start .args .octets .now)) (at-if1 .if1 .left) _
+    (sym (at-left-after-plain .left-after-plain .ensures) ∙ at-left .left .given .1) _
+    (sym (at-left-after-line .left-after-line .ensures) ∙ at-enum-told2 .enum-told2 .given .1) _ _ (at-put-plain .put-plain .ensures)
 
 same-length : tie.Need-same-length
 same-length c = search needs
 
 returns-4 : tie.Need-returns-4
-returns-4 c = placed-both (c .before .before .before .before .before .before .before .before .before .before .before .before .before .before .before .before .before .before .before .before .before .before .args .out .now) (c .before .before .before .before .before .before .before .before .before .before .before .before .before .before .before .before .before .before .before .before .before .before .args .at) (lineOf (c .before .before .before .before .before .before .before .before .before .before .before .before .before .before .before .before .before .before .before .before .before .before .args .first .now) (c .before .before .before .before .before .before .before .before .before .before .before .before .before .before .before .before .before .before .before .before .before .before .args .counts .now)) (lineOf (c .before .before .before .before .before .before .before .before .before .before .before .before .before .before .before .before .before .before .before .before .before .before .args .word .now) (c .before .before .before .before .before .before .before .before .before .before .before .before .before .before .before .before .before .before .before .before .before .before .args .fields .now ++ c .before .before .before .before .before .before .before .before .before .before .before .before .before .before .before .before .before .before .before .before .before .before .args .octets .now)) (c .before .before .before .before .before .before .before .before .before .before .before .before .before .before .before .if1 .left) _ (sym (c .before .before .before .before .before .before .before .before .before .before .before .before .before .before .left-after-plain .ensures) ∙ c .before .before .before .before .before .before .before .before .before .before .before .before .left .given .1) _ (sym (c .before .before .before .before .before .before .before .before .before .before .left-after-line .ensures) ∙ c .before .before .before .before .before .before .before .before .enum-told2 .given .1) _ _ (c .before .before .before .before .before .before .put-plain .ensures) _ _ (c .before .before .put-line .ensures)
+returns-4 c =
+    let at-put-plain = c .before .before .before .before .before .before in
+    let at-enum-told2 = at-put-plain .before .before in
+    let at-left-after-line = at-enum-told2 .before .before in
+    let at-left = at-left-after-line .before .before in
+    let at-left-after-plain = at-left .before .before in
+    let at-if1 = at-left-after-plain .before in
+    let start = at-if1 .before .before .before .before .before .before .before in
+    placed-both (start .args .out .now) (start .args .at) (lineOf (start .args .first .now) (start .args .counts .now))
+    (lineOf (start .args .word .now) (start .args .fields .now ++ start .args .octets .now)) (at-if1 .if1 .left) _
+    (sym (at-left-after-plain .left-after-plain .ensures) ∙ at-left .left .given .1) _
+    (sym (at-left-after-line .left-after-line .ensures) ∙ at-enum-told2 .enum-told2 .given .1) _ _ (at-put-plain .put-plain .ensures) _ _
+    (c .before .before .put-line .ensures)
 
 pub write-two-spec : {M : Type 1} → statement M
 write-two-spec =

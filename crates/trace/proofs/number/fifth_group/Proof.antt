@@ -14,13 +14,21 @@ wide-requires : tie.Need-wide-requires
 wide-requires c κs = search needs
 
 returns-2 : tie.Need-returns-2
-returns-2 c = too-large (c .before .before .before .before .before .args .s .now) (c .before .before .before .before .before .args .at) (c .before .before .before .before .before .args .value) 268435456 (c .before .wide .result) (c .before .before .before .if1 .left) (c .before .wide .ensures .0) (c .if2 .taken)
+returns-2 c =
+    let at-if1 = c .before .before .before in
+    let start = at-if1 .before .before in
+    too-large (start .args .s .now) (start .args .at) (start .args .value) 268435456 (c .before .wide .result) (at-if1 .if1 .left) (c .before .wide .ensures .0) (c .if2 .taken)
 
 last-group-requires : tie.Need-last-group-requires
 last-group-requires c κs = search needs
 
 returns-3 : tie.Need-returns-3
-returns-3 c = c .last-group .ensures ∙ fifth (c .before .before .before .before .before .before .args .s .now) (c .before .before .before .before .before .before .args .at) (c .before .before .before .before .before .before .args .value) 268435456 (c .before .before .wide .result) (c .before .before .before .before .if1 .left) (c .before .before .wide .ensures .0) (c .before .if2 .left)
+returns-3 c =
+    let at-if1 = c .before .before .before .before in
+    let start = at-if1 .before .before in
+    c .last-group .ensures
+    ∙ fifth (start .args .s .now) (start .args .at) (start .args .value) 268435456 (c .before .before .wide .result) (at-if1 .if1 .left)
+    (c .before .before .wide .ensures .0) (c .before .if2 .left)
 
 pub fifth-group-spec : {M : Type 1} → statement M
 fifth-group-spec =

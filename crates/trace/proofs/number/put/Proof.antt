@@ -28,10 +28,20 @@ cast-out : tie.Need-cast-out Inv-loop μ-loop
 cast-out c = search needs
 
 add-out-2 : tie.Need-add-out-2 Inv-loop μ-loop
-add-out-2 c = omega (arith, left-inside (numberBytes (c .before .before .args .n)) (c .before .loop .i) (next-left (c .before .loop .i) (c .before .loop .rest) (numberBytes (c .before .before .args .n)) (c .loop-test .taken) (c .before .loop .inv .0) (c .before .loop .inv .1)))
+add-out-2 c = omega (
+  arith,
+  left-inside (numberBytes (c .before .before .args .n)) (c .before .loop .i)
+      (next-left (c .before .loop .i) (c .before .loop .rest) (numberBytes (c .before .before .args .n)) (c .loop-test .taken) (c .before .loop .inv .0)
+      (c .before .loop .inv .1)),
+)
 
 slice-write-out : tie.Need-slice-write-out Inv-loop μ-loop
-slice-write-out c = omega (arith, left-inside (numberBytes (c .before .before .args .n)) (c .before .loop .i) (next-left (c .before .loop .i) (c .before .loop .rest) (numberBytes (c .before .before .args .n)) (c .loop-test .taken) (c .before .loop .inv .0) (c .before .loop .inv .1)))
+slice-write-out c = omega (
+  arith,
+  left-inside (numberBytes (c .before .before .args .n)) (c .before .loop .i)
+      (next-left (c .before .loop .i) (c .before .loop .rest) (numberBytes (c .before .before .args .n)) (c .loop-test .taken) (c .before .loop .inv .0)
+      (c .before .loop .inv .1)),
+)
 
 add-i : tie.Need-add-i Inv-loop μ-loop
 add-i c = omega (arith, next-low (c .before .loop .i) (c .before .loop .rest) [] (c .loop-test .taken) (c .before .loop .inv .0))
@@ -40,28 +50,67 @@ loop-less : tie.Need-loop-less Inv-loop μ-loop
 loop-less c = search needs
 
 loop-again : tie.Need-loop-again Inv-loop μ-loop
-loop-again c = (next-held (c .before .loop .i) (c .before .loop .rest) [] (c .loop-test .taken) (c .before .loop .inv .0), left-next (numberBytes (c .before .before .args .n)) (c .before .loop .i) (next-left (c .before .loop .i) (c .before .loop .rest) (numberBytes (c .before .before .args .n)) (c .loop-test .taken) (c .before .loop .inv .0) (c .before .loop .inv .1)), simp length-set (c .before .loop .inv .2), store-turn (c .before .before .args .out .now) (c .before .before .args .at) (numberBytes (c .before .before .args .n)) (c .before .loop .i) (next-left (c .before .loop .i) (c .before .loop .rest) (numberBytes (c .before .before .args .n)) (c .loop-test .taken) (c .before .loop .inv .0) (c .before .loop .inv .1)) (c .before .before .pre) (c .before .loop .inv .3))
+loop-again c = (
+  next-held (c .before .loop .i) (c .before .loop .rest) [] (c .loop-test .taken) (c .before .loop .inv .0),
+  left-next
+      (numberBytes (c .before .before .args .n)) (c .before .loop .i)
+      (next-left (c .before .loop .i) (c .before .loop .rest) (numberBytes (c .before .before .args .n)) (c .loop-test .taken) (c .before .loop .inv .0)
+      (c .before .loop .inv .1)),
+  simp length-set (c .before .loop .inv .2),
+  store-turn (c .before .before .args .out .now)
+      (c .before .before .args .at) (numberBytes (c .before .before .args .n)) (c .before .loop .i)
+      (next-left (c .before .loop .i) (c .before .loop .rest) (numberBytes (c .before .before .args .n)) (c .loop-test .taken) (c .before .loop .inv .0)
+      (c .before .loop .inv .1)) (c .before .before .pre) (c .before .loop .inv .3),
+)
 
 cast-out-2 : tie.Need-cast-out-2 Inv-loop μ-loop
 cast-out-2 c = search needs
 
 add-out-3 : tie.Need-add-out-3 Inv-loop μ-loop
-add-out-3 c = omega (arith, left-inside (numberBytes (c .before .before .args .n)) (c .before .loop .i) (last-left (c .before .loop .i) (c .before .loop .rest) (numberBytes (c .before .before .args .n)) (c .loop-test .left) (c .before .loop .inv .1)))
+add-out-3 c = omega (
+  arith,
+  left-inside (numberBytes (c .before .before .args .n)) (c .before .loop .i)
+      (last-left (c .before .loop .i) (c .before .loop .rest) (numberBytes (c .before .before .args .n)) (c .loop-test .left)
+      (c .before .loop .inv .1)),
+)
 
 slice-write-out-2 : tie.Need-slice-write-out-2 Inv-loop μ-loop
-slice-write-out-2 c = omega (arith, left-inside (numberBytes (c .before .before .args .n)) (c .before .loop .i) (last-left (c .before .loop .i) (c .before .loop .rest) (numberBytes (c .before .before .args .n)) (c .loop-test .left) (c .before .loop .inv .1)))
+slice-write-out-2 c = omega (
+  arith,
+  left-inside (numberBytes (c .before .before .args .n)) (c .before .loop .i)
+      (last-left (c .before .loop .i) (c .before .loop .rest) (numberBytes (c .before .before .args .n)) (c .loop-test .left)
+      (c .before .loop .inv .1)),
+)
 
 add-result : tie.Need-add-result Inv-loop μ-loop
-add-result c = omega (arith, left-inside (numberBytes (c .before .before .args .n)) (c .before .loop .i) (last-left (c .before .loop .i) (c .before .loop .rest) (numberBytes (c .before .before .args .n)) (c .loop-test .left) (c .before .loop .inv .1)))
+add-result c = omega (
+  arith,
+  left-inside (numberBytes (c .before .before .args .n)) (c .before .loop .i)
+      (last-left (c .before .loop .i) (c .before .loop .rest) (numberBytes (c .before .before .args .n)) (c .loop-test .left)
+      (c .before .loop .inv .1)),
+)
 
 add-result-2 : tie.Need-add-result-2 Inv-loop μ-loop
-add-result-2 c = omega (arith, left-inside (numberBytes (c .before .before .args .n)) (c .before .loop .i) (last-left (c .before .loop .i) (c .before .loop .rest) (numberBytes (c .before .before .args .n)) (c .loop-test .left) (c .before .loop .inv .1)))
+add-result-2 c = omega (
+  arith,
+  left-inside (numberBytes (c .before .before .args .n)) (c .before .loop .i)
+      (last-left (c .before .loop .i) (c .before .loop .rest) (numberBytes (c .before .before .args .n)) (c .loop-test .left)
+      (c .before .loop .inv .1)),
+)
 
 same-length : tie.Need-same-length Inv-loop μ-loop
 same-length c = simp length-set (c .before .loop .inv .2)
 
 returns : tie.Need-returns Inv-loop μ-loop
-returns c = let e = last-left (c .before .loop .i) (c .before .loop .rest) (numberBytes (c .before .before .args .n)) (c .loop-test .left) (c .before .loop .inv .1) in record { place = omega (arith, left-last (numberBytes (c .before .before .args .n)) (c .before .loop .i) e); bytes = store-turn (c .before .before .args .out .now) (c .before .before .args .at) (numberBytes (c .before .before .args .n)) (c .before .loop .i) e (c .before .before .pre) (c .before .loop .inv .3) ∙ stored (c .before .before .args .out .now) (c .before .before .args .at) (numberBytes (c .before .before .args .n)) (c .before .loop .i + 1) (left-last (numberBytes (c .before .before .args .n)) (c .before .loop .i) e) }
+returns c = let e = last-left (c .before .loop .i) (c .before .loop .rest) (numberBytes (c .before .before .args .n)) (c .loop-test .left)
+    (c .before .loop .inv .1) in record {
+      place = omega
+          (arith, left-last (numberBytes (c .before .before .args .n)) (c .before .loop .i) e);
+      bytes = store-turn (c .before .before .args .out .now)
+          (c .before .before .args .at) (numberBytes (c .before .before .args .n)) (c .before .loop .i) e (c .before .before .pre) (c .before .loop .inv .3)
+          ∙ stored (c .before .before .args .out .now) (c .before .before .args .at) (numberBytes (c .before .before .args .n)) (c .before .loop .i + 1)
+          (left-last (numberBytes (c .before .before .args .n)) (c .before .loop .i) e);
+    }
 
 pub put-spec : {M : Type 1} → statement M
 put-spec =

@@ -17,7 +17,10 @@ add-t9 : tie.Need-add-t9
 add-t9 c = search needs
 
 returns-2 : tie.Need-returns-2
-returns-2 c = only (c .before .before .before .before .before .args .s .now) (c .before .before .before .before .before .args .at) (c .before .wide .result) (c .before .before .before .if1 .left) (c .before .wide .ensures .0) (c .if2 .taken)
+returns-2 c =
+    let at-if1 = c .before .before .before in
+    let start = at-if1 .before .before in
+    only (start .args .s .now) (start .args .at) (c .before .wide .result) (at-if1 .if1 .left) (c .before .wide .ensures .0) (c .if2 .taken)
 
 add-later-groups : tie.Need-add-later-groups
 add-later-groups c = search needs
@@ -26,7 +29,10 @@ later-groups-requires : tie.Need-later-groups-requires
 later-groups-requires c κs = search needs
 
 returns-3 : tie.Need-returns-3
-returns-3 c = c .later-groups .ensures ∙ first-of (c .before .before .before .before .before .before .args .s .now) (c .before .before .before .before .before .before .args .at) (c .before .before .wide .result) (c .before .before .before .before .if1 .left) (c .before .before .wide .ensures .0) (c .before .if2 .left)
+returns-3 c =
+    let at-if1 = c .before .before .before .before in
+    let start = at-if1 .before .before in
+    c .later-groups .ensures ∙ first-of (start .args .s .now) (start .args .at) (c .before .before .wide .result) (at-if1 .if1 .left) (c .before .before .wide .ensures .0) (c .before .if2 .left)
 
 pub read-spec : {M : Type 1} → statement M
 read-spec =

@@ -20,10 +20,16 @@ faulty-requires : tie.Need-faulty-requires
 faulty-requires c κs = search needs
 
 returns : tie.Need-returns
-returns c = at-number (lengthAt (c .before .before .before .before .before .before .args .s .now)) (c .before .before .before .before .read .ensures) (c .before .before .n .given .1) (c .length .ensures)
+returns c =
+    let at-read = c .before .before .before .before in
+    let start = at-read .before .before in
+    at-number (lengthAt (start .args .s .now)) (at-read .read .ensures) (c .before .before .n .given .1) (c .length .ensures)
 
 returns-2 : tie.Need-returns-2
-returns-2 c = at-fault (lengthAt (c .before .before .before .before .before .before .args .s .now)) (c .before .before .before .before .read .ensures) (c .before .before .n2 .given .1) (c .faulty .ensures)
+returns-2 c =
+    let at-read = c .before .before .before .before in
+    let start = at-read .before .before in
+    at-fault (lengthAt (start .args .s .now)) (at-read .read .ensures) (c .before .before .n2 .given .1) (c .faulty .ensures)
 
 pub frame-spec : {M : Type 1} → statement M
 frame-spec =

@@ -12,7 +12,10 @@ enum-known-n : tie.Need-enum-known-n
 enum-known-n c = search needs
 
 bytes-requires : tie.Need-bytes-requires
-bytes-requires c κs = ends-inside (c .before .before .before .before .before .args .s .now) (c .before .before .before .before .before .args .at) (c .before .before .before .read .ensures) (c .before .n .given .1)
+bytes-requires c κs =
+    let at-read = c .before .before .before in
+    let start = at-read .before .before in
+    ends-inside (start .args .s .now) (start .args .at) (at-read .read .ensures) (c .before .n .given .1)
 
 enum-known-n-2 : tie.Need-enum-known-n-2
 enum-known-n-2 c = search needs
@@ -21,10 +24,16 @@ faulty-requires : tie.Need-faulty-requires
 faulty-requires c κs = search needs
 
 returns : tie.Need-returns
-returns c = at-number (bytesAt (length (c .before .before .before .before .before .before .args .s .now)) (c .before .before .before .before .before .before .args .identifier)) (c .before .before .before .before .read .ensures) (c .before .before .n .given .1) (c .bytes .ensures)
+returns c =
+    let at-read = c .before .before .before .before in
+    let start = at-read .before .before in
+    at-number (bytesAt (length (start .args .s .now)) (start .args .identifier)) (at-read .read .ensures) (c .before .before .n .given .1) (c .bytes .ensures)
 
 returns-2 : tie.Need-returns-2
-returns-2 c = at-fault (bytesAt (length (c .before .before .before .before .before .before .args .s .now)) (c .before .before .before .before .before .before .args .identifier)) (c .before .before .before .before .read .ensures) (c .before .before .n2 .given .1) (c .faulty .ensures)
+returns-2 c =
+    let at-read = c .before .before .before .before in
+    let start = at-read .before .before in
+    at-fault (bytesAt (length (start .args .s .now)) (start .args .identifier)) (at-read .read .ensures) (c .before .before .n2 .given .1) (c .faulty .ensures)
 
 pub length-spec : {M : Type 1} → statement M
 length-spec =

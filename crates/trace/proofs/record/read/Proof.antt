@@ -28,11 +28,19 @@ faulty-requires c κs = search needs
 
 returns-2 : tie.Need-returns-2
 unfolding recordAt
-returns-2 c = else _ _ _ _ (lt-leb _ _ (c .before .before .before .before .before .if1 .left)) (at-number (byKind (c .before .before .before .before .before .before .before .args .s .now)) (c .before .before .before .before .read .ensures) (c .before .before .kind .given .1) (c .by-kind .ensures))
+returns-2 c =
+    let at-read = c .before .before .before .before in
+    let at-if1 = at-read .before in
+    let start = at-if1 .before .before in
+    else _ _ _ _ (lt-leb _ _ (at-if1 .if1 .left)) (at-number (byKind (start .args .s .now)) (at-read .read .ensures) (c .before .before .kind .given .1) (c .by-kind .ensures))
 
 returns-3 : tie.Need-returns-3
 unfolding recordAt
-returns-3 c = else _ _ _ _ (lt-leb _ _ (c .before .before .before .before .before .if1 .left)) (at-fault (byKind (c .before .before .before .before .before .before .before .args .s .now)) (c .before .before .before .before .read .ensures) (c .before .before .kind2 .given .1) (c .faulty .ensures))
+returns-3 c =
+    let at-read = c .before .before .before .before in
+    let at-if1 = at-read .before in
+    let start = at-if1 .before .before in
+    else _ _ _ _ (lt-leb _ _ (at-if1 .if1 .left)) (at-fault (byKind (start .args .s .now)) (at-read .read .ensures) (c .before .before .kind2 .given .1) (c .faulty .ensures))
 
 pub read-spec : {M : Type 1} → statement M
 read-spec =

@@ -36,19 +36,44 @@ has-room-requires c κs = search needs
 
 returns-2 : tie.Need-returns-2
 returns-2 c =
-    written-record (frame (c .before .before .before .before .before .before .before .before .args .identifier) (c .before .before .before .before .before .before .before .before .args .s .now)) (le-ltb 64 (length (c .before .before .before .before .before .before .before .before .args .s .now)) (c .before .before .before .before .before .if1 .left))
-    (written-none (c .before .before .before .before .before .before .before .before .args .out .now) (c .before .before .before .before .before .before .before .before .args .at) (recordBytes (frame (c .before .before .before .before .before .before .before .before .args .identifier) (c .before .before .before .before .before .before .before .before .args .s .now))) (frame-size (c .before .before .before .before .before .before .before .before .args .identifier) (c .before .before .before .before .before .before .before .before .args .s .now) (c .before .before .before .before .size .ensures .0) (c .before .before .before .size2 .ensures .0) (c .before .before .size3 .ensures .0)) (c .before .has-room .ensures) (c .if2 .taken))
+    let at-size2 = c .before .before .before in
+    let at-size = at-size2 .before in
+    let at-if1 = at-size .before in
+    let start = at-if1 .before .before .before in
+    written-record (frame (start .args .identifier) (start .args .s .now)) (le-ltb 64 (length (start .args .s .now)) (at-if1 .if1 .left))
+    (written-none (start .args .out .now) (start .args .at) (recordBytes (frame (start .args .identifier) (start .args .s .now)))
+    (frame-size (start .args .identifier) (start .args .s .now) (at-size .size .ensures .0) (at-size2 .size2 .ensures .0)
+    (c .before .before .size3 .ensures .0)) (c .before .has-room .ensures) (c .if2 .taken))
 
 put-frame-requires : tie.Need-put-frame-requires
-put-frame-requires c κs = (c .before .before .before .before .before .before .if1 .left, room-told (c .before .before .before .before .before .before .before .before .before .args .out .now) (c .before .before .before .before .before .before .before .before .before .args .at) (recordBytes (frame (c .before .before .before .before .before .before .before .before .before .args .identifier) (c .before .before .before .before .before .before .before .before .before .args .s .now))) (frame-size (c .before .before .before .before .before .before .before .before .before .args .identifier) (c .before .before .before .before .before .before .before .before .before .args .s .now) (c .before .before .before .before .before .size .ensures .0) (c .before .before .before .before .size2 .ensures .0) (c .before .before .before .size3 .ensures .0)) (c .before .before .has-room .ensures) (c .before .if2 .left))
+put-frame-requires c κs =
+    let at-size3 = c .before .before .before in
+    let at-size2 = at-size3 .before in
+    let at-size = at-size2 .before in
+    let at-if1 = at-size .before in
+    let start = at-if1 .before .before .before in (
+      at-if1 .if1 .left,
+      room-told (start .args .out .now) (start .args .at) (recordBytes (frame (start .args .identifier) (start .args .s .now)))
+          (frame-size (start .args .identifier) (start .args .s .now) (at-size .size .ensures .0) (at-size2 .size2 .ensures .0)
+          (at-size3 .size3 .ensures .0)) (c .before .before .has-room .ensures) (c .before .if2 .left),
+    )
 
 same-length : tie.Need-same-length
 same-length c = search needs
 
 returns-3 : tie.Need-returns-3
 returns-3 c =
-    written-record (frame (c .before .before .before .before .before .before .before .before .before .before .before .before .args .identifier) (c .before .before .before .before .before .before .before .before .before .before .before .before .args .s .now)) (le-ltb 64 (length (c .before .before .before .before .before .before .before .before .before .before .before .before .args .s .now)) (c .before .before .before .before .before .before .before .before .before .if1 .left))
-    (written-all (c .before .before .before .before .before .before .before .before .before .before .before .before .args .out .now) (c .before .before .before .before .before .before .before .before .before .before .before .before .args .at) (recordBytes (frame (c .before .before .before .before .before .before .before .before .before .before .before .before .args .identifier) (c .before .before .before .before .before .before .before .before .before .before .before .before .args .s .now))) (frame-size (c .before .before .before .before .before .before .before .before .before .before .before .before .args .identifier) (c .before .before .before .before .before .before .before .before .before .before .before .before .args .s .now) (c .before .before .before .before .before .before .before .before .size .ensures .0) (c .before .before .before .before .before .before .before .size2 .ensures .0) (c .before .before .before .before .before .before .size3 .ensures .0)) (c .before .before .before .before .before .has-room .ensures) (c .before .before .before .before .if2 .left) (c .before .before .put-frame .ensures))
+    let at-if2 = c .before .before .before .before in
+    let at-has-room = at-if2 .before in
+    let at-size3 = at-has-room .before in
+    let at-size2 = at-size3 .before in
+    let at-size = at-size2 .before in
+    let at-if1 = at-size .before in
+    let start = at-if1 .before .before .before in
+    written-record (frame (start .args .identifier) (start .args .s .now)) (le-ltb 64 (length (start .args .s .now)) (at-if1 .if1 .left))
+    (written-all (start .args .out .now) (start .args .at) (recordBytes (frame (start .args .identifier) (start .args .s .now)))
+    (frame-size (start .args .identifier) (start .args .s .now) (at-size .size .ensures .0) (at-size2 .size2 .ensures .0)
+    (at-size3 .size3 .ensures .0)) (at-has-room .has-room .ensures) (at-if2 .if2 .left) (c .before .before .put-frame .ensures))
 
 pub write-frame-spec : {M : Type 1} → statement M
 write-frame-spec =

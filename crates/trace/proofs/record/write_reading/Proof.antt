@@ -19,19 +19,56 @@ has-room-requires : tie.Need-has-room-requires
 has-room-requires c κs = search needs
 
 returns : tie.Need-returns
-returns c = written-record (reading (c .before .before .before .before .before .args .value)) refl (written-none (c .before .before .before .before .before .args .out .now) (c .before .before .before .before .before .args .at) (recordBytes (reading (c .before .before .before .before .before .args .value))) (size-both (numberBytes 0) (numberBytes (c .before .before .before .before .before .args .value)) (c .before .before .before .size .ensures .0) (c .before .before .size2 .ensures .0)) (c .before .has-room .ensures) (c .if1 .taken))
+returns c =
+    let at-size = c .before .before .before in
+    let start = at-size .before .before in
+    written-record (reading (start .args .value)) refl
+    (written-none (start .args .out .now) (start .args .at) (recordBytes (reading (start .args .value)))
+    (size-both (numberBytes 0) (numberBytes (start .args .value)) (at-size .size .ensures .0) (c .before .before .size2 .ensures .0))
+    (c .before .has-room .ensures) (c .if1 .taken))
 
 put-requires : tie.Need-put-requires
-put-requires c κs = front-room (c .before .before .before .before .before .before .args .out .now) (c .before .before .before .before .before .before .args .at) (numberBytes 0) (numberBytes (c .before .before .before .before .before .before .args .value)) (room-told (c .before .before .before .before .before .before .args .out .now) (c .before .before .before .before .before .before .args .at) (recordBytes (reading (c .before .before .before .before .before .before .args .value))) (size-both (numberBytes 0) (numberBytes (c .before .before .before .before .before .before .args .value)) (c .before .before .before .before .size .ensures .0) (c .before .before .before .size2 .ensures .0)) (c .before .before .has-room .ensures) (c .before .if1 .left))
+put-requires c κs =
+    let at-size2 = c .before .before .before in
+    let at-size = at-size2 .before in
+    let start = at-size .before .before in
+    front-room (start .args .out .now) (start .args .at) (numberBytes 0) (numberBytes (start .args .value))
+    (room-told (start .args .out .now) (start .args .at) (recordBytes (reading (start .args .value)))
+    (size-both (numberBytes 0) (numberBytes (start .args .value)) (at-size .size .ensures .0) (at-size2 .size2 .ensures .0))
+    (c .before .before .has-room .ensures) (c .before .if1 .left))
 
 put-requires-2 : tie.Need-put-requires-2
-put-requires-2 c κs = room-after (numberBytes (c .before .before .before .before .before .before .before .before .before .before .args .value)) (c .before .before .before .put .ensures) (room-told (c .before .before .before .before .before .before .before .before .before .before .args .out .now) (c .before .before .before .before .before .before .before .before .before .before .args .at) (recordBytes (reading (c .before .before .before .before .before .before .before .before .before .before .args .value))) (size-both (numberBytes 0) (numberBytes (c .before .before .before .before .before .before .before .before .before .before .args .value)) (c .before .before .before .before .before .before .before .before .size .ensures .0) (c .before .before .before .before .before .before .before .size2 .ensures .0)) (c .before .before .before .before .before .before .has-room .ensures) (c .before .before .before .before .before .if1 .left))
+put-requires-2 c κs =
+    let at-put = c .before .before .before in
+    let at-if1 = at-put .before .before in
+    let at-has-room = at-if1 .before in
+    let at-size2 = at-has-room .before in
+    let at-size = at-size2 .before in
+    let start = at-size .before .before in
+    room-after (numberBytes (start .args .value)) (at-put .put .ensures)
+    (room-told (start .args .out .now) (start .args .at) (recordBytes (reading (start .args .value)))
+    (size-both (numberBytes 0) (numberBytes (start .args .value)) (at-size .size .ensures .0) (at-size2 .size2 .ensures .0))
+    (at-has-room .has-room .ensures) (at-if1 .if1 .left))
 
 same-length : tie.Need-same-length
 same-length c = search needs
 
 returns-2 : tie.Need-returns-2
-returns-2 c = written-record (reading (c .before .before .before .before .before .before .before .before .before .before .before .before .before .args .value)) refl (written-all (c .before .before .before .before .before .before .before .before .before .before .before .before .before .args .out .now) (c .before .before .before .before .before .before .before .before .before .before .before .before .before .args .at) (recordBytes (reading (c .before .before .before .before .before .before .before .before .before .before .before .before .before .args .value))) (size-both (numberBytes 0) (numberBytes (c .before .before .before .before .before .before .before .before .before .before .before .before .before .args .value)) (c .before .before .before .before .before .before .before .before .before .before .before .size .ensures .0) (c .before .before .before .before .before .before .before .before .before .before .size2 .ensures .0)) (c .before .before .before .before .before .before .before .before .before .has-room .ensures) (c .before .before .before .before .before .before .before .before .if1 .left) (put-both (numberBytes (c .before .before .before .before .before .before .before .before .before .before .before .before .before .args .value)) (c .before .before .before .before .before .before .put .ensures) (room-told (c .before .before .before .before .before .before .before .before .before .before .before .before .before .args .out .now) (c .before .before .before .before .before .before .before .before .before .before .before .before .before .args .at) (recordBytes (reading (c .before .before .before .before .before .before .before .before .before .before .before .before .before .args .value))) (size-both (numberBytes 0) (numberBytes (c .before .before .before .before .before .before .before .before .before .before .before .before .before .args .value)) (c .before .before .before .before .before .before .before .before .before .before .before .size .ensures .0) (c .before .before .before .before .before .before .before .before .before .before .size2 .ensures .0)) (c .before .before .before .before .before .before .before .before .before .has-room .ensures) (c .before .before .before .before .before .before .before .before .if1 .left)) (c .before .before .put2 .ensures)))
+returns-2 c =
+    let at-put = c .before .before .before .before .before .before in
+    let at-if1 = at-put .before .before in
+    let at-has-room = at-if1 .before in
+    let at-size2 = at-has-room .before in
+    let at-size = at-size2 .before in
+    let start = at-size .before .before in
+    written-record (reading (start .args .value)) refl
+    (written-all (start .args .out .now) (start .args .at) (recordBytes (reading (start .args .value)))
+    (size-both (numberBytes 0) (numberBytes (start .args .value)) (at-size .size .ensures .0) (at-size2 .size2 .ensures .0))
+    (at-has-room .has-room .ensures) (at-if1 .if1 .left)
+    (put-both (numberBytes (start .args .value)) (at-put .put .ensures)
+    (room-told (start .args .out .now) (start .args .at) (recordBytes (reading (start .args .value)))
+    (size-both (numberBytes 0) (numberBytes (start .args .value)) (at-size .size .ensures .0) (at-size2 .size2 .ensures .0))
+    (at-has-room .has-room .ensures) (at-if1 .if1 .left)) (c .before .before .put2 .ensures)))
 
 pub write-reading-spec : {M : Type 1} → statement M
 write-reading-spec =

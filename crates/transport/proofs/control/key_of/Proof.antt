@@ -12,7 +12,8 @@ first-requires c κs = search needs
 
 returns : tie.Need-returns
 returns c =
-    ap (λ (b : ℕ). record { sa = c .before .before .before .before .args .route .sa; da = c .before .before .before .before .args .route .da; session = record { 0 = b / 16 % 16 } }) (c .first .ensures)
+    let start = c .before .before .before .before in
+    ap (λ (b : ℕ). record { sa = start .args .route .sa; da = start .args .route .da; session = record { 0 = b / 16 % 16 } }) (c .first .ensures)
 
 pub key-of-spec : {M : Type 1} → statement M
 key-of-spec = tie.close (tie.spec first-requires returns)

@@ -72,7 +72,9 @@ returns-5 : tie.Need-returns-5
 returns-5 c = with-control _ 15 _ (c .before .before .before .if1 .left) (c .before .match .keys4) (c .read-abort .ensures)
 
 returns-6 : tie.Need-returns-6
-returns-6 c = with-control _ _ _ (c .before .before .if1 .left) refl (with-other (c .before .before .before .before .args .bytes .now) _ (c .match .rest .0 .0 .0 .1) (c .match .rest .0 .0 .1) (c .match .rest .0 .1) (c .match .rest .1))
+returns-6 c =
+    let start = c .before .before .before .before in
+    with-control _ _ _ (c .before .before .if1 .left) refl (with-other (start .args .bytes .now) _ (c .match .rest .0 .0 .0 .1) (c .match .rest .0 .0 .1) (c .match .rest .0 .1) (c .match .rest .1))
 
 pub read-control-spec : {M : Type 1} → statement M
 read-control-spec =

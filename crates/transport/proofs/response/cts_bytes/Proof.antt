@@ -42,11 +42,17 @@ low-byte-requires-7 c κs = search needs
 returns : tie.Need-returns
 unfolding responseBytes
 returns c =
-    head-byte _ _ _ _ (c .before .before .before .before .before .before .before .before .before .before .before .wide .ensures .0) (c .before .before .before .before .before .before .before .before .before .before .low-byte .ensures)
+    let at-low-byte5 = c .before .before .before .before in
+    let at-low-byte4 = at-low-byte5 .before in
+    let at-low-byte3 = at-low-byte4 .before .before in
+    let at-low-byte2 = at-low-byte3 .before .before in
+    let at-low-byte = at-low-byte2 .before in
+    let at-wide = at-low-byte .before in
+    head-byte _ _ _ _ (at-wide .wide .ensures .0) (at-low-byte .low-byte .ensures)
     (same-byte _ (same-byte _ (same-byte _
-    (low3-bytes _ _ _ _ (c .before .before .before .before .before .before .before .before .before .low-byte2 .ensures) (c .before .before .before .before .before .before .before .low-byte3 .ensures) (c .before .before .before .before .before .low-byte4 .ensures)
+    (low3-bytes _ _ _ _ (at-low-byte2 .low-byte2 .ensures) (at-low-byte3 .low-byte3 .ensures) (at-low-byte4 .low-byte4 .ensures)
     (same-byte _ (same-byte _
-    (low3-bytes _ _ _ _ (c .before .before .before .before .low-byte5 .ensures) (c .before .before .low-byte6 .ensures) (c .low-byte7 .ensures) refl)))))))
+    (low3-bytes _ _ _ _ (at-low-byte5 .low-byte5 .ensures) (c .before .before .low-byte6 .ensures) (c .low-byte7 .ensures) refl)))))))
 
 pub cts-bytes-spec : {M : Type 1} → statement M
 cts-bytes-spec =

@@ -56,16 +56,26 @@ read-abort-requires : tie.Need-read-abort-requires
 read-abort-requires c κs = search needs
 
 returns-2 : tie.Need-returns-2
-returns-2 c = with-control _ _ _ 1 _ (c .before .before .before .before .if1 .left) (c .before .before .before .session-key .ensures) (c .before .match .keys1) (ap (λ f. Response (Cts f)) (c .read-cts .ensures))
+returns-2 c =
+    let at-session-key = c .before .before .before in
+    let at-if1 = at-session-key .before in
+    with-control _ _ _ 1 _ (at-if1 .if1 .left) (at-session-key .session-key .ensures) (c .before .match .keys1) (ap (λ f. Response (Cts f)) (c .read-cts .ensures))
 
 returns-3 : tie.Need-returns-3
-returns-3 c = with-control _ _ _ 3 _ (c .before .before .before .before .if1 .left) (c .before .before .before .session-key .ensures) (c .before .match .keys2) (ap (λ f. Response (Eoma f)) (c .read-eoma .ensures))
+returns-3 c =
+    let at-session-key = c .before .before .before in
+    let at-if1 = at-session-key .before in
+    with-control _ _ _ 3 _ (at-if1 .if1 .left) (at-session-key .session-key .ensures) (c .before .match .keys2) (ap (λ f. Response (Eoma f)) (c .read-eoma .ensures))
 
 returns-4 : tie.Need-returns-4
 returns-4 c = with-control _ _ _ 15 _ (c .before .before .before .before .if1 .left) (c .before .before .before .session-key .ensures) (c .before .match .keys3) (c .read-abort .ensures)
 
 returns-5 : tie.Need-returns-5
-returns-5 c = with-control _ _ _ _ _ (c .before .before .before .if1 .left) (c .before .before .session-key .ensures) refl (with-other _ (c .before .before .before .before .before .args .frame .now) _ (c .match .rest .0 .0 .1) (c .match .rest .0 .1) (c .match .rest .1))
+returns-5 c =
+    let at-if1 = c .before .before .before in
+    let start = at-if1 .before .before in
+    with-control _ _ _ _ _ (at-if1 .if1 .left) (c .before .before .session-key .ensures) refl
+    (with-other _ (start .args .frame .now) _ (c .match .rest .0 .0 .1) (c .match .rest .0 .1) (c .match .rest .1))
 
 pub read-response-spec : {M : Type 1} → statement M
 read-response-spec =

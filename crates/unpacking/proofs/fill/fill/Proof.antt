@@ -22,67 +22,166 @@ is-group-requires : tie.Need-is-group-requires Inv-loop μ-loop
 is-group-requires c κs = (c .loop .inv .inside, c .before .before .before .pre .0)
 
 shared-slice-read-pgn-of : tie.Need-shared-slice-read-pgn-of Inv-loop μ-loop
-shared-slice-read-pgn-of c = let p = is-plain (c .before .before .before .before .before .before .args .frame .now) (c .before .before .before .loop .at) (sym (c .before .before .is-group .ensures) ∙ c .before .if1 .taken) in omega (arith, p .whole)
+shared-slice-read-pgn-of c =
+    let at-loop = c .before .before .before in
+    let start = at-loop .before .before .before in
+    let p = is-plain (start .args .frame .now) (at-loop .loop .at) (sym (c .before .before .is-group .ensures) ∙ c .before .if1 .taken) in omega (arith, p .whole)
 
 add-pgn-of : tie.Need-add-pgn-of Inv-loop μ-loop
-add-pgn-of c = let p = is-plain (c .before .before .before .before .before .before .args .frame .now) (c .before .before .before .loop .at) (sym (c .before .before .is-group .ensures) ∙ c .before .if1 .taken) in omega (arith, p .whole)
+add-pgn-of c =
+    let at-loop = c .before .before .before in
+    let start = at-loop .before .before .before in
+    let p = is-plain (start .args .frame .now) (at-loop .loop .at) (sym (c .before .before .is-group .ensures) ∙ c .before .if1 .taken) in omega (arith, p .whole)
 
 shared-slice-read-pgn-of-2 : tie.Need-shared-slice-read-pgn-of-2 Inv-loop μ-loop
-shared-slice-read-pgn-of-2 c = let p = is-plain (c .before .before .before .before .before .before .before .args .frame .now) (c .before .before .before .before .loop .at) (sym (c .before .before .before .is-group .ensures) ∙ c .before .before .if1 .taken) in omega (arith, p .whole)
+shared-slice-read-pgn-of-2 c =
+    let at-is-group = c .before .before .before in
+    let at-loop = at-is-group .before in
+    let start = at-loop .before .before .before in
+    let p = is-plain (start .args .frame .now) (at-loop .loop .at) (sym (at-is-group .is-group .ensures) ∙ c .before .before .if1 .taken) in omega (arith, p .whole)
 
 add-pgn-of-2 : tie.Need-add-pgn-of-2 Inv-loop μ-loop
-add-pgn-of-2 c = let p = is-plain (c .before .before .before .before .before .before .before .args .frame .now) (c .before .before .before .before .loop .at) (sym (c .before .before .before .is-group .ensures) ∙ c .before .before .if1 .taken) in omega (arith, p .whole)
+add-pgn-of-2 c =
+    let at-is-group = c .before .before .before in
+    let at-loop = at-is-group .before in
+    let start = at-loop .before .before .before in
+    let p = is-plain (start .args .frame .now) (at-loop .loop .at) (sym (at-is-group .is-group .ensures) ∙ c .before .before .if1 .taken) in omega (arith, p .whole)
 
 shared-slice-read-pgn-of-3 : tie.Need-shared-slice-read-pgn-of-3 Inv-loop μ-loop
-shared-slice-read-pgn-of-3 c = let p = is-plain (c .before .before .before .before .before .before .before .before .args .frame .now) (c .before .before .before .before .before .loop .at) (sym (c .before .before .before .before .is-group .ensures) ∙ c .before .before .before .if1 .taken) in omega (arith, p .whole)
+shared-slice-read-pgn-of-3 c =
+    let at-if1 = c .before .before .before in
+    let at-is-group = at-if1 .before in
+    let at-loop = at-is-group .before in
+    let start = at-loop .before .before .before in
+    let p = is-plain (start .args .frame .now) (at-loop .loop .at) (sym (at-is-group .is-group .ensures) ∙ at-if1 .if1 .taken) in omega (arith, p .whole)
 
 pgn-of-requires : tie.Need-pgn-of-requires Inv-loop μ-loop
 pgn-of-requires c κs = search needs
 
 add-wide : tie.Need-add-wide Inv-loop μ-loop
-add-wide c = let p = is-plain (c .before .before .before .before .before .before .before .before .before .args .frame .now) (c .before .before .before .before .before .before .loop .at) (sym (c .before .before .before .before .before .is-group .ensures) ∙ c .before .before .before .before .if1 .taken) in omega (arith, p .whole)
+add-wide c =
+    let at-if1 = c .before .before .before .before in
+    let at-is-group = at-if1 .before in
+    let at-loop = at-is-group .before in
+    let start = at-loop .before .before .before in
+    let p = is-plain (start .args .frame .now) (at-loop .loop .at) (sym (at-is-group .is-group .ensures) ∙ at-if1 .if1 .taken) in omega (arith, p .whole)
 
 shared-slice-read-wide : tie.Need-shared-slice-read-wide Inv-loop μ-loop
-shared-slice-read-wide c = let p = is-plain (c .before .before .before .before .before .before .before .before .before .before .args .frame .now) (c .before .before .before .before .before .before .before .loop .at) (sym (c .before .before .before .before .before .before .is-group .ensures) ∙ c .before .before .before .before .before .if1 .taken) in omega (arith, p .whole)
+shared-slice-read-wide c =
+    let at-if1 = c .before .before .before .before .before in
+    let at-is-group = at-if1 .before in
+    let at-loop = at-is-group .before in
+    let start = at-loop .before .before .before in
+    let p = is-plain (start .args .frame .now) (at-loop .loop .at) (sym (at-is-group .is-group .ensures) ∙ at-if1 .if1 .taken) in omega (arith, p .whole)
 
 wide-requires : tie.Need-wide-requires Inv-loop μ-loop
 wide-requires c κs = search needs
 
 add-start : tie.Need-add-start Inv-loop μ-loop
-add-start c = let p = is-plain (c .before .before .before .before .before .before .before .before .before .before .before .args .frame .now) (c .before .before .before .before .before .before .before .before .loop .at) (sym (c .before .before .before .before .before .before .before .is-group .ensures) ∙ c .before .before .before .before .before .before .if1 .taken) in omega (arith, p .whole)
+add-start c =
+    let at-if1 = c .before .before .before .before .before .before in
+    let at-is-group = at-if1 .before in
+    let at-loop = at-is-group .before in
+    let start = at-loop .before .before .before in
+    let p = is-plain (start .args .frame .now) (at-loop .loop .at) (sym (at-is-group .is-group .ensures) ∙ at-if1 .if1 .taken) in omega (arith, p .whole)
 
 mul-keep : tie.Need-mul-keep Inv-loop μ-loop
-mul-keep c = let r = row-room (c .before .before .before .before .before .before .before .before .before .before .before .before .args .frame .now) (now (c .before .before .before .before .before .before .before .before .before .before .before .before .args .out)) (c .before .before .before .before .before .before .before .before .before .loop .out) (c .before .before .before .before .before .before .before .before .before .loop .kept) (c .before .before .before .before .before .before .before .before .before .loop .count) (c .before .before .before .before .before .before .before .before .before .loop .at) (c .before .before .before .before .before .before .before .before .before .before .before .before .pre .0) (c .before .before .before .before .before .before .before .before .before .loop .inv) (is-plain (c .before .before .before .before .before .before .before .before .before .before .before .before .args .frame .now) (c .before .before .before .before .before .before .before .before .before .loop .at) (sym (c .before .before .before .before .before .before .before .before .is-group .ensures) ∙ c .before .before .before .before .before .before .before .if1 .taken)) in omega arith
+mul-keep c =
+    let at-if1 = c .before .before .before .before .before .before .before in
+    let at-is-group = at-if1 .before in
+    let at-loop = at-is-group .before in
+    let start = at-loop .before .before .before in
+    let r = row-room (start .args .frame .now) (now (start .args .out)) (at-loop .loop .out) (at-loop .loop .kept) (at-loop .loop .count)
+    (at-loop .loop .at) (start .pre .0) (at-loop .loop .inv)
+    (is-plain (start .args .frame .now) (at-loop .loop .at) (sym (at-is-group .is-group .ensures) ∙ at-if1 .if1 .taken)) in omega arith
 
 slice-aggregate-keep : tie.Need-slice-aggregate-keep Inv-loop μ-loop
 slice-aggregate-keep c = sym (c .before .before .before .before .before .before .before .before .before .before .loop .inv .keeps)
 
 keep-requires : tie.Need-keep-requires Inv-loop μ-loop
-keep-requires c κs = let r = row-room (c .before .before .before .before .before .before .before .before .before .before .before .before .before .args .frame .now) (now (c .before .before .before .before .before .before .before .before .before .before .before .before .before .args .out)) (c .before .before .before .before .before .before .before .before .before .before .loop .out) (c .before .before .before .before .before .before .before .before .before .before .loop .kept) (c .before .before .before .before .before .before .before .before .before .before .loop .count) (c .before .before .before .before .before .before .before .before .before .before .loop .at) (c .before .before .before .before .before .before .before .before .before .before .before .before .before .pre .0) (c .before .before .before .before .before .before .before .before .before .before .loop .inv) (is-plain (c .before .before .before .before .before .before .before .before .before .before .before .before .before .args .frame .now) (c .before .before .before .before .before .before .before .before .before .before .loop .at) (sym (c .before .before .before .before .before .before .before .before .before .is-group .ensures) ∙ c .before .before .before .before .before .before .before .before .if1 .taken)) in (omega (arith, c .before .before .before .before .before .before .before .before .before .before .loop .inv .long), omega (arith, c .before .before .before .before .before .before .before .before .before .before .loop .inv .keeps))
+keep-requires c κs =
+    let at-if1 = c .before .before .before .before .before .before .before .before in
+    let at-is-group = at-if1 .before in
+    let at-loop = at-is-group .before in
+    let start = at-loop .before .before .before in
+    let r = row-room (start .args .frame .now) (now (start .args .out)) (at-loop .loop .out) (at-loop .loop .kept) (at-loop .loop .count)
+    (at-loop .loop .at) (start .pre .0) (at-loop .loop .inv)
+    (is-plain (start .args .frame .now) (at-loop .loop .at) (sym (at-is-group .is-group .ensures) ∙ at-if1 .if1 .taken)) in
+    (omega (arith, at-loop .loop .inv .long), omega (arith, at-loop .loop .inv .keeps))
 
 mul-write : tie.Need-mul-write Inv-loop μ-loop
-mul-write c = let r = row-room (c .before .before .before .before .before .before .before .before .before .before .before .before .before .before .before .before .args .frame .now) (now (c .before .before .before .before .before .before .before .before .before .before .before .before .before .before .before .before .args .out)) (c .before .before .before .before .before .before .before .before .before .before .before .before .before .loop .out) (c .before .before .before .before .before .before .before .before .before .before .before .before .before .loop .kept) (c .before .before .before .before .before .before .before .before .before .before .before .before .before .loop .count) (c .before .before .before .before .before .before .before .before .before .before .before .before .before .loop .at) (c .before .before .before .before .before .before .before .before .before .before .before .before .before .before .before .before .pre .0) (c .before .before .before .before .before .before .before .before .before .before .before .before .before .loop .inv) (is-plain (c .before .before .before .before .before .before .before .before .before .before .before .before .before .before .before .before .args .frame .now) (c .before .before .before .before .before .before .before .before .before .before .before .before .before .loop .at) (sym (c .before .before .before .before .before .before .before .before .before .before .before .before .is-group .ensures) ∙ c .before .before .before .before .before .before .before .before .before .before .before .if1 .taken)) in omega arith
+mul-write c =
+    let at-if1 = c .before .before .before .before .before .before .before .before .before .before .before in
+    let at-is-group = at-if1 .before in
+    let at-loop = at-is-group .before in
+    let start = at-loop .before .before .before in
+    let r = row-room (start .args .frame .now) (now (start .args .out)) (at-loop .loop .out) (at-loop .loop .kept) (at-loop .loop .count)
+    (at-loop .loop .at) (start .pre .0) (at-loop .loop .inv)
+    (is-plain (start .args .frame .now) (at-loop .loop .at) (sym (at-is-group .is-group .ensures) ∙ at-if1 .if1 .taken)) in omega arith
 
 cast-write : tie.Need-cast-write Inv-loop μ-loop
-cast-write c = let p = is-plain (c .before .before .before .before .before .before .before .before .before .before .before .before .before .before .before .before .args .frame .now) (c .before .before .before .before .before .before .before .before .before .before .before .before .before .loop .at) (sym (c .before .before .before .before .before .before .before .before .before .before .before .before .is-group .ensures) ∙ c .before .before .before .before .before .before .before .before .before .before .before .if1 .taken) in omega (arith, p .whole)
+cast-write c =
+    let at-if1 = c .before .before .before .before .before .before .before .before .before .before .before in
+    let at-is-group = at-if1 .before in
+    let at-loop = at-is-group .before in
+    let start = at-loop .before .before .before in
+    let p = is-plain (start .args .frame .now) (at-loop .loop .at) (sym (at-is-group .is-group .ensures) ∙ at-if1 .if1 .taken) in omega (arith, p .whole)
 
 write-requires : tie.Need-write-requires Inv-loop μ-loop
-write-requires c κs = let r = row-room (c .before .before .before .before .before .before .before .before .before .before .before .before .before .before .before .before .args .frame .now) (now (c .before .before .before .before .before .before .before .before .before .before .before .before .before .before .before .before .args .out)) (c .before .before .before .before .before .before .before .before .before .before .before .before .before .loop .out) (c .before .before .before .before .before .before .before .before .before .before .before .before .before .loop .kept) (c .before .before .before .before .before .before .before .before .before .before .before .before .before .loop .count) (c .before .before .before .before .before .before .before .before .before .before .before .before .before .loop .at) (c .before .before .before .before .before .before .before .before .before .before .before .before .before .before .before .before .pre .0) (c .before .before .before .before .before .before .before .before .before .before .before .before .before .loop .inv) (is-plain (c .before .before .before .before .before .before .before .before .before .before .before .before .before .before .before .before .args .frame .now) (c .before .before .before .before .before .before .before .before .before .before .before .before .before .loop .at) (sym (c .before .before .before .before .before .before .before .before .before .before .before .before .is-group .ensures) ∙ c .before .before .before .before .before .before .before .before .before .before .before .if1 .taken)) in omega (arith, c .before .before .before .before .before .before .before .before .before .before .before .before .before .loop .inv .long)
+write-requires c κs =
+    let at-if1 = c .before .before .before .before .before .before .before .before .before .before .before in
+    let at-is-group = at-if1 .before in
+    let at-loop = at-is-group .before in
+    let start = at-loop .before .before .before in
+    let r = row-room (start .args .frame .now) (now (start .args .out)) (at-loop .loop .out) (at-loop .loop .kept) (at-loop .loop .count)
+    (at-loop .loop .at) (start .pre .0) (at-loop .loop .inv)
+    (is-plain (start .args .frame .now) (at-loop .loop .at) (sym (at-is-group .is-group .ensures) ∙ at-if1 .if1 .taken)) in omega
+    (arith, at-loop .loop .inv .long)
 
 add-count : tie.Need-add-count Inv-loop μ-loop
-add-count c = let r = row-room (c .before .before .before .before .before .before .before .before .before .before .before .before .before .before .before .before .before .before .before .args .frame .now) (now (c .before .before .before .before .before .before .before .before .before .before .before .before .before .before .before .before .before .before .before .args .out)) (c .before .before .before .before .before .before .before .before .before .before .before .before .before .before .before .before .loop .out) (c .before .before .before .before .before .before .before .before .before .before .before .before .before .before .before .before .loop .kept) (c .before .before .before .before .before .before .before .before .before .before .before .before .before .before .before .before .loop .count) (c .before .before .before .before .before .before .before .before .before .before .before .before .before .before .before .before .loop .at) (c .before .before .before .before .before .before .before .before .before .before .before .before .before .before .before .before .before .before .before .pre .0) (c .before .before .before .before .before .before .before .before .before .before .before .before .before .before .before .before .loop .inv) (is-plain (c .before .before .before .before .before .before .before .before .before .before .before .before .before .before .before .before .before .before .before .args .frame .now) (c .before .before .before .before .before .before .before .before .before .before .before .before .before .before .before .before .loop .at) (sym (c .before .before .before .before .before .before .before .before .before .before .before .before .before .before .before .is-group .ensures) ∙ c .before .before .before .before .before .before .before .before .before .before .before .before .before .before .if1 .taken)) in omega arith
+add-count c =
+    let at-if1 = c .before .before .before .before .before .before .before .before .before .before .before .before .before .before in
+    let at-is-group = at-if1 .before in
+    let at-loop = at-is-group .before in
+    let start = at-loop .before .before .before in
+    let r = row-room (start .args .frame .now) (now (start .args .out)) (at-loop .loop .out) (at-loop .loop .kept) (at-loop .loop .count)
+    (at-loop .loop .at) (start .pre .0) (at-loop .loop .inv)
+    (is-plain (start .args .frame .now) (at-loop .loop .at) (sym (at-is-group .is-group .ensures) ∙ at-if1 .if1 .taken)) in omega arith
 
 cast-at : tie.Need-cast-at Inv-loop μ-loop
 cast-at c = search needs
 
 add-at : tie.Need-add-at Inv-loop μ-loop
-add-at c = let p = is-plain (c .before .before .before .before .before .before .before .before .before .before .before .before .before .before .before .before .before .before .before .args .frame .now) (c .before .before .before .before .before .before .before .before .before .before .before .before .before .before .before .before .loop .at) (sym (c .before .before .before .before .before .before .before .before .before .before .before .before .before .before .before .is-group .ensures) ∙ c .before .before .before .before .before .before .before .before .before .before .before .before .before .before .if1 .taken) in omega (arith, p .whole, c .before .before .before .before .before .before .before .before .wide .ensures)
+add-at c =
+    let at-wide = c .before .before .before .before .before .before .before .before in
+    let at-if1 = at-wide .before .before .before .before .before .before in
+    let at-is-group = at-if1 .before in
+    let at-loop = at-is-group .before in
+    let start = at-loop .before .before .before in
+    let p = is-plain (start .args .frame .now) (at-loop .loop .at) (sym (at-is-group .is-group .ensures) ∙ at-if1 .if1 .taken) in omega (arith, p .whole, at-wide .wide .ensures)
 
 loop-less : tie.Need-loop-less Inv-loop μ-loop
-loop-less c = let p = is-plain (c .before .before .before .before .before .before .before .before .before .before .before .before .before .before .before .before .before .before .before .args .frame .now) (c .before .before .before .before .before .before .before .before .before .before .before .before .before .before .before .before .loop .at) (sym (c .before .before .before .before .before .before .before .before .before .before .before .before .before .before .before .is-group .ensures) ∙ c .before .before .before .before .before .before .before .before .before .before .before .before .before .before .if1 .taken) in omega (arith, p .whole, c .before .before .before .before .before .before .before .before .wide .ensures)
+loop-less c =
+    let at-wide = c .before .before .before .before .before .before .before .before in
+    let at-if1 = at-wide .before .before .before .before .before .before in
+    let at-is-group = at-if1 .before in
+    let at-loop = at-is-group .before in
+    let start = at-loop .before .before .before in
+    let p = is-plain (start .args .frame .now) (at-loop .loop .at) (sym (at-is-group .is-group .ensures) ∙ at-if1 .if1 .taken) in omega (arith, p .whole, at-wide .wide .ensures)
 
 loop-again : tie.Need-loop-again Inv-loop μ-loop
-loop-again c = filled-turn (c .before .before .before .before .before .before .before .before .before .before .before .before .before .before .before .before .before .before .before .args .frame .now) (now (c .before .before .before .before .before .before .before .before .before .before .before .before .before .before .before .before .before .before .before .args .out)) (c .before .before .before .before .before .before .before .before .before .before .before .before .before .before .before .before .loop .out) (c .before .before .before .before .before .before .before .before .before .before .before .before .before .before .before .before .loop .kept) (c .before .before .before .before .before .before .before .before .before .before .before .before .before .before .before .before .loop .count) (c .before .before .before .before .before .before .before .before .before .before .before .before .before .before .before .before .loop .at) (c .before .before .before .before .before .before .before .before .before .before .before .before .before .before .before .before .before .before .before .pre .0) (c .before .before .before .before .before .before .before .before .before .before .before .before .before .before .before .before .loop .inv) _ _ _ _ _ (is-plain (c .before .before .before .before .before .before .before .before .before .before .before .before .before .before .before .before .before .before .before .args .frame .now) (c .before .before .before .before .before .before .before .before .before .before .before .before .before .before .before .before .loop .at) (sym (c .before .before .before .before .before .before .before .before .before .before .before .before .before .before .before .is-group .ensures) ∙ c .before .before .before .before .before .before .before .before .before .before .before .before .before .before .if1 .taken)) (c .before .before .before .before .before .before .before .before .before .before .pgn-of .ensures) refl (c .before .before .before .before .before .before .before .before .wide .ensures .0) (c .before .before .before .before .before .keep .ensures) (c .before .before .write .ensures)
+loop-again c =
+    let at-keep = c .before .before .before .before .before in
+    let at-wide = at-keep .before .before .before in
+    let at-pgn-of = at-wide .before .before in
+    let at-if1 = at-pgn-of .before .before .before .before in
+    let at-is-group = at-if1 .before in
+    let at-loop = at-is-group .before in
+    let start = at-loop .before .before .before in
+    filled-turn (start .args .frame .now) (now (start .args .out)) (at-loop .loop .out) (at-loop .loop .kept) (at-loop .loop .count)
+    (at-loop .loop .at) (start .pre .0) (at-loop .loop .inv) _ _ _ _ _
+    (is-plain (start .args .frame .now) (at-loop .loop .at) (sym (at-is-group .is-group .ensures) ∙ at-if1 .if1 .taken))
+    (at-pgn-of .pgn-of .ensures) refl (at-wide .wide .ensures .0) (at-keep .keep .ensures) (c .before .before .write .ensures)
 
 step-requires : tie.Need-step-requires Inv-loop μ-loop
 step-requires c κs = search needs
@@ -100,7 +199,9 @@ mul-put-back : tie.Need-mul-put-back Inv-loop μ-loop
 mul-put-back c = omega (arith, c .before .before .before .before .before .before .before .before .loop .inv .inside, c .before .before .before .before .before .before .before .before .loop .inv .paid)
 
 put-back-requires : tie.Need-put-back-requires Inv-loop μ-loop
-put-back-requires c κs = (omega (arith, c .before .before .before .before .before .before .before .before .loop .inv .inside, c .before .before .before .before .before .before .before .before .loop .inv .paid, c .before .before .before .before .before .before .before .before .loop .inv .long), omega (arith, c .before .before .before .before .before .before .before .before .loop .inv .inside, c .before .before .before .before .before .before .before .before .loop .inv .paid, c .before .before .before .before .before .before .before .before .loop .inv .keeps))
+put-back-requires c κs =
+    let at-loop = c .before .before .before .before .before .before .before .before in
+    (omega (arith, at-loop .loop .inv .inside, at-loop .loop .inv .paid, at-loop .loop .inv .long), omega (arith, at-loop .loop .inv .inside, at-loop .loop .inv .paid, at-loop .loop .inv .keeps))
 
 enum-told-2 : tie.Need-enum-told-2 Inv-loop μ-loop
 enum-told-2 c = search needs
@@ -109,19 +210,37 @@ same-length : tie.Need-same-length Inv-loop μ-loop
 same-length c = search needs
 
 returns : tie.Need-returns Inv-loop μ-loop
-returns c = filled-end (c .before .before .before .before .before .before .before .before .args .frame .now) (now (c .before .before .before .before .before .before .before .before .args .out)) (c .before .before .before .before .before .loop .out) (c .before .before .before .before .before .loop .kept) (c .before .before .before .before .before .loop .count) (c .before .before .before .before .before .loop .at) (c .before .before .before .before .before .before .before .before .pre .0) (c .before .before .before .before .before .loop .inv) (sym (c .before .before .step .ensures) ∙ c .enum-told .given .1)
+returns c =
+    let at-loop = c .before .before .before .before .before in
+    let start = at-loop .before .before .before in
+    filled-end (start .args .frame .now) (now (start .args .out)) (at-loop .loop .out) (at-loop .loop .kept) (at-loop .loop .count)
+    (at-loop .loop .at) (start .pre .0) (at-loop .loop .inv) (sym (c .before .before .step .ensures) ∙ c .enum-told .given .1)
 
 same-length-2 : tie.Need-same-length-2 Inv-loop μ-loop
 same-length-2 c = search needs
 
 returns-2 : tie.Need-returns-2 Inv-loop μ-loop
-returns-2 c = filled-fault (c .before .before .before .before .before .before .before .before .before .before .before .before .before .before .args .frame .now) (now (c .before .before .before .before .before .before .before .before .before .before .before .before .before .before .args .out)) (c .before .before .before .before .before .before .before .before .before .before .before .loop .out) (c .before .before .before .before .before .before .before .before .before .before .before .loop .kept) (c .before .before .before .before .before .before .before .before .before .before .before .loop .count) (c .before .before .before .before .before .before .before .before .before .before .before .loop .at) (c .before .before .before .before .before .before .before .before .before .before .before .before .before .before .pre .0) (c .before .before .before .before .before .before .before .before .before .before .before .loop .inv) _ _ (sym (c .before .before .before .before .before .before .before .before .step .ensures) ∙ c .before .before .before .before .before .before .r .given .1) (c .before .before .put-back .ensures)
+returns-2 c =
+    let at-r = c .before .before .before .before .before .before in
+    let at-step = at-r .before .before in
+    let at-loop = at-step .before .before .before in
+    let start = at-loop .before .before .before in
+    filled-fault (start .args .frame .now) (now (start .args .out)) (at-loop .loop .out) (at-loop .loop .kept) (at-loop .loop .count)
+    (at-loop .loop .at) (start .pre .0) (at-loop .loop .inv) _ _ (sym (at-step .step .ensures) ∙ at-r .r .given .1)
+    (c .before .before .put-back .ensures)
 
 same-length-3 : tie.Need-same-length-3 Inv-loop μ-loop
 same-length-3 c = search needs
 
 returns-3 : tie.Need-returns-3 Inv-loop μ-loop
-returns-3 c = filled-not (c .before .before .before .before .before .before .before .before .args .frame .now) (now (c .before .before .before .before .before .before .before .before .args .out)) (c .before .before .before .before .before .loop .out) (c .before .before .before .before .before .loop .kept) (c .before .before .before .before .before .loop .count) (c .before .before .before .before .before .loop .at) (c .before .before .before .before .before .before .before .before .pre .0) (c .before .before .before .before .before .loop .inv) _ _ (sym (c .before .before .step .ensures) ∙ c .enum-told2 .given .1) (sym (c .before .before .before .before .is-group .ensures) ∙ c .before .before .before .if1 .left)
+returns-3 c =
+    let at-if1 = c .before .before .before in
+    let at-is-group = at-if1 .before in
+    let at-loop = at-is-group .before in
+    let start = at-loop .before .before .before in
+    filled-not (start .args .frame .now) (now (start .args .out)) (at-loop .loop .out) (at-loop .loop .kept) (at-loop .loop .count)
+    (at-loop .loop .at) (start .pre .0) (at-loop .loop .inv) _ _ (sym (c .before .before .step .ensures) ∙ c .enum-told2 .given .1)
+    (sym (at-is-group .is-group .ensures) ∙ at-if1 .if1 .left)
 
 pub fill-spec : {M : Type 1} → statement M
 fill-spec =

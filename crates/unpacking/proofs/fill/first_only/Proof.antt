@@ -14,10 +14,18 @@ enum-known-g : tie.Need-enum-known-g
 enum-known-g c = search needs
 
 cast-write : tie.Need-cast-write
-cast-write c = omega (arith, step-room (c .before .before .before .before .before .before .before .before .args .frame .now) 0 (c .before .before .before .g .given .0 .0) (sym (c .before .before .before .before .before .step .ensures) ∙ c .before .before .before .g .given .1), c .before .before .before .before .before .before .before .before .pre .1)
+cast-write c =
+    let at-g = c .before .before .before in
+    let at-step = at-g .before .before in
+    let start = at-step .before .before .before in
+    omega (arith, step-room (start .args .frame .now) 0 (at-g .g .given .0 .0) (sym (at-step .step .ensures) ∙ at-g .g .given .1), start .pre .1)
 
 cast-write-2 : tie.Need-cast-write-2
-cast-write-2 c = omega (arith, step-room (c .before .before .before .before .before .before .before .before .before .args .frame .now) 0 (c .before .before .before .before .g .given .0 .0) (sym (c .before .before .before .before .before .before .step .ensures) ∙ c .before .before .before .before .g .given .1), c .before .before .before .before .before .before .before .before .before .pre .1)
+cast-write-2 c =
+    let at-g = c .before .before .before .before in
+    let at-step = at-g .before .before in
+    let start = at-step .before .before .before in
+    omega (arith, step-room (start .args .frame .now) 0 (at-g .g .given .0 .0) (sym (at-step .step .ensures) ∙ at-g .g .given .1), start .pre .1)
 
 write-requires : tie.Need-write-requires
 write-requires c κs = search needs
@@ -32,13 +40,23 @@ same-length : tie.Need-same-length
 same-length c = search needs
 
 returns : tie.Need-returns
-returns c = one-row (c .before .before .before .before .before .before .before .before .before .before .before .before .args .frame .now) (now (c .before .before .before .before .before .before .before .before .before .before .before .before .args .out)) (c .before .before .before .before .before .before .before .g .given .0 .0) _ (omega (arith, c .before .before .before .before .before .before .before .before .before .before .before .before .pre .2)) (c .before .before .before .before .before .before .before .before .before .before .before .before .pre .0) (sym (c .before .before .before .before .before .before .before .before .before .step .ensures) ∙ c .before .before .before .before .before .before .before .g .given .1) (c .before .before .write .ensures)
+returns c =
+    let at-g = c .before .before .before .before .before .before .before in
+    let at-step = at-g .before .before in
+    let start = at-step .before .before .before in
+    one-row (start .args .frame .now) (now (start .args .out)) (at-g .g .given .0 .0) _ (omega (arith, start .pre .2)) (start .pre .0)
+    (sym (at-step .step .ensures) ∙ at-g .g .given .1) (c .before .before .write .ensures)
 
 returns-2 : tie.Need-returns-2
-returns-2 c = no-row (c .before .before .before .before .before .args .frame .now) (now (c .before .before .before .before .before .args .out)) (sym (c .before .before .step .ensures) ∙ c .enum-told .given .1)
+returns-2 c =
+    let start = c .before .before .before .before .before in
+    no-row (start .args .frame .now) (now (start .args .out)) (sym (c .before .before .step .ensures) ∙ c .enum-told .given .1)
 
 returns-3 : tie.Need-returns-3
-returns-3 c = bad-row (c .before .before .before .before .before .before .args .frame .now) (now (c .before .before .before .before .before .before .args .out)) (c .before .r .given .0 .0) (sym (c .before .before .before .step .ensures) ∙ c .before .r .given .1)
+returns-3 c =
+    let at-step = c .before .before .before in
+    let start = at-step .before .before .before in
+    bad-row (start .args .frame .now) (now (start .args .out)) (c .before .r .given .0 .0) (sym (at-step .step .ensures) ∙ c .before .r .given .1)
 
 pub first-only-spec : {M : Type 1} → statement M
 first-only-spec =

@@ -46,7 +46,10 @@ shared-slice-read-result : tie.Need-shared-slice-read-result
 shared-slice-read-result c = search needs
 
 returns-3 : tie.Need-returns-3
-returns-3 c = by-byte (c .before .before .before .before .before .before .args .frame .now) (c .before .before .wide .result) (c .before .before .wide .ensures .0) (c .before .before .before .before .if1 .left) (c .before .if2 .left)
+returns-3 c =
+    let at-if1 = c .before .before .before .before in
+    let start = at-if1 .before .before in
+    by-byte (start .args .frame .now) (c .before .before .wide .result) (c .before .before .wide .ensures .0) (at-if1 .if1 .left) (c .before .if2 .left)
 
 pub first-is-last-spec : {M : Type 1} → statement M
 first-is-last-spec =

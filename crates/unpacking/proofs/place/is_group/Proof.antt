@@ -67,7 +67,12 @@ shared-slice-read-if4 : tie.Need-shared-slice-read-if4
 shared-slice-read-if4 c = search needs
 
 returns-3 : tie.Need-returns-3
-returns-3 c = wrong (c .before .before .before .before .before .before .before .before .args .frame .now) (c .before .before .before .before .before .before .before .before .args .at) (omega (arith, c .before .before .before .shared-slice-known3 .given (c .before .before .before .before .before .before .before .before .args .at + 1))) (omega (arith, c .before .before .before .shared-slice-known3 .given (c .before .before .before .before .before .before .before .before .args .at + 2))) (sym (or-next _ _ _ (lt-leb _ _ (c .before .before .if3 .taken)) (sym (ne-eqb _ _ (c .if4 .taken)))))
+returns-3 c =
+    let at-shared-slice-known3 = c .before .before .before in
+    let start = at-shared-slice-known3 .before .before .before .before .before in
+    wrong (start .args .frame .now) (start .args .at) (omega (arith, at-shared-slice-known3 .shared-slice-known3 .given (start .args .at + 1)))
+    (omega (arith, at-shared-slice-known3 .shared-slice-known3 .given (start .args .at + 2)))
+    (sym (or-next _ _ _ (lt-leb _ _ (c .before .before .if3 .taken)) (sym (ne-eqb _ _ (c .if4 .taken)))))
 
 add-wide : tie.Need-add-wide
 add-wide c = search needs
@@ -85,7 +90,16 @@ add-result : tie.Need-add-result
 add-result c = search needs
 
 returns-4 : tie.Need-returns-4
-returns-4 c = by-data (c .before .before .before .before .before .before .before .before .args .frame .now) (c .before .before .before .before .before .before .before .before .args .at) (omega (arith, c .before .before .before .shared-slice-known3 .given (c .before .before .before .before .before .before .before .before .args .at + 1))) (omega (arith, c .before .before .before .shared-slice-known3 .given (c .before .before .before .before .before .before .before .before .args .at + 2))) (c .wide .result) (c .wide .ensures .0) (c .before .before .before .before .before .before .if1 .left) (c .before .before .before .before .if2 .left) (⊎-elim (λ w. or-inr (leb 240 (getD (c .before .before .before .before .before .before .before .before .args .frame .now) (c .before .before .before .before .before .before .before .before .args .at + 1) 0)) _ (eq-eqb _ _ (w .2 .left))) (λ w. sym (or-stop _ _ (le-leb _ _ (w .left)))) (c .before .before .if3 .came))
+returns-4 c =
+    let at-shared-slice-known3 = c .before .before .before in
+    let at-if2 = at-shared-slice-known3 .before in
+    let at-if1 = at-if2 .before .before in
+    let start = at-if1 .before .before in
+    by-data (start .args .frame .now) (start .args .at) (omega (arith, at-shared-slice-known3 .shared-slice-known3 .given (start .args .at + 1)))
+    (omega (arith, at-shared-slice-known3 .shared-slice-known3 .given (start .args .at + 2))) (c .wide .result) (c .wide .ensures .0)
+    (at-if1 .if1 .left) (at-if2 .if2 .left)
+    (⊎-elim (λ w. or-inr (leb 240 (getD (start .args .frame .now) (start .args .at + 1) 0)) _ (eq-eqb _ _ (w .2 .left)))
+    (λ w. sym (or-stop _ _ (le-leb _ _ (w .left)))) (c .before .before .if3 .came))
 
 pub is-group-spec : {M : Type 1} → statement M
 is-group-spec =

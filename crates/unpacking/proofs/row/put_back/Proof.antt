@@ -37,8 +37,15 @@ loop-less : tie.Need-loop-less Inv-loop μ-loop
 loop-less c = search needs
 
 loop-again : tie.Need-loop-again Inv-loop μ-loop
-loop-again c = let a = c .before .before .before .args in
-    (ap (λ (l : List ℕ). set l (c .before .before .loop .j) (getD (now (a .kept)) (c .before .before .loop .j) 0)) (c .before .before .loop .inv .0) ∙ back-turn (now (a .kept)) (now (a .out)) (c .before .before .loop .j) (search needs) (search needs), search needs, simp length-set (c .before .before .loop .inv .2))
+loop-again c =
+    let start = c .before .before .before in
+    let a = start .args in (
+      ap (λ (l : List ℕ). set l (c .before .before .loop .j) (getD (now (a .kept)) (c .before .before .loop .j) 0)) (c .before .before .loop .inv .0)
+          ∙ back-turn (now (a .kept)) (now (a .out)) (c .before .before .loop .j) (search needs) (search needs),
+      search needs,
+      simp length-set
+          (c .before .before .loop .inv .2),
+    )
 
 same-length : tie.Need-same-length Inv-loop μ-loop
 same-length c = search needs

@@ -1,0 +1,176 @@
+-- 23 exactly where 01 says: the record's bounds fact by fact, and the store's length.
+use Prim.Native.Nat.{ℕ, _≤_}
+use mathlib.Core.Path.{_≡_, refl, sym, ap, _∙_, subst}
+use mathlib.Core.Bool.{Bool, true, false, cond, not, _&&_}
+use mathlib.Core.List.{List, [], _∷_}
+use native.Mathlib.Omega.{arith}
+use lib.Dec.{eqb, leb}
+use lib.ListN.{length, replicate}
+use borrow.Author.Tests.{eqb-true, eqb-false, eq-eqb, ne-eqb, leb-true, le-leb, not-true}
+use Rattle.laws.specs.Choice.{each-of, all-of}
+use Rattle.frame.specs.declared.Address.{Address}
+use Rattle.frame.specs.declared.refusal.Refusal.the-variants.{OutOfBounds}
+use Rattle.transport.specs.Kinds.{isRts}
+use Rattle.transport.specs.declared.Key.{Key}
+use Rattle.answer.specs.declared.Acceptance.the-variants as acceptance
+use Rattle.answer.specs.Answers.{answerNumber}
+use Rattle.session.specs.declared.Session.{Session}
+use Rattle.session.specs.declared.State.{State}
+use Rattle.session.specs.declared.State.the-variants.{Closed, Open}
+use Rattle.session.specs.Bounds.{sessionOk, stateOk}
+use Rattle.session.specs.InBounds.{Sound, sound-of, of-sound}
+use Rattle.slots.specs.Bounds.{openingOk, slotsOk}
+use Rattle.receiver.specs.declared.Receiver.{Receiver}
+use Rattle.receiver.specs.Bounds.{inBounds}
+use Rattle.receiver.specs.Calls.{refused, isReady, frameAll, frameStep, readingStep, stays}
+use Rattle.isolation.specs.OwnFrames as F
+use Rattle.isolation.specs.OwnFrames.{keyAt}
+use Rattle.isolation.specs.Limits.{SessionIn, RecordIn}
+use Rattle.isolation.proofs.Tests.{clash, or-false, and-left, and-right, both}
+use Rattle.isolation.proofs.Slots.{at, holds, holds-free, open-key, keys-same, keyNumber, key-of, Small}
+use Rattle.isolation.proofs.Same.{kind-same, sixties-same, pgn-same}
+use Rattle.isolation.proofs.InBounds.{slots-true, true-all, true-unique}
+use Rattle.isolation.proofs.Opening.{allowed, ok-of}
+use Rattle.isolation.proofs.Refused.{never-23, reading-never-23}
+use Rattle.isolation.proofs.Elapsed.{reading-refused}
+
+-- ---- a session
+
+module _ (own : Address) (s : Session) where
+  tests : List Bool
+  tests =
+      leb (s .announced .key .sa .0) 253 ∷ not (eqb (s .announced .key .sa .0) (own .0))
+      ∷ eqb (s .announced .key .da .0) (cond (isRts (s .announced .kind)) (own .0) 255) ∷ leb (s .announced .key .session .0) 15 ∷ []
+
+  session-in : sessionOk own s ≡ true → SessionIn own s
+  unfolding tests
+  session-in e =
+      let h : Sound own s = sound-of own s e in
+      let t = each-of tests (h .key) in
+      record {
+        some-byte = h .agreed .some;
+        at-most = h .agreed .fits;
+        count = h .agreed .count ∙ sym (sixties-same (s .announced .total .0));
+        pgn = pgn-same (s .announced .pgn) ∙ h .agreed .form;
+        max = λ r. h .agreed .grants (sym (kind-same (s .announced .kind)) ∙ r);
+        sa = leb-true (s .announced .key .sa .0) 253 (t .0);
+        sa-other = eqb-false (s .announced .key .sa .0) (own .0) (not-true (eqb (s .announced .key .sa .0) (own .0)) (t .1 .0));
+        da = rw (kind-same (s .announced .kind)) (eqb-true (s .announced .key .da .0) (cond (isRts (s .announced .kind)) (own .0) 255) (t .1 .1 .0));
+        session = leb-true (s .announced .key .session .0) 15 (t .1 .1 .1 .0);
+        next-low = h .reached .low;
+        next-high = h .reached .high;
+        granted = λ r. h .reached .ahead (sym (kind-same (s .announced .kind)) ∙ r);
+      }
+
+  in-session : SessionIn own s → sessionOk own s ≡ true
+  unfolding tests
+  in-session h =
+      of-sound own s (record {
+        agreed = record {
+          some = h .some-byte;
+          fits = h .at-most;
+          count = h .count ∙ sixties-same (s .announced .total .0);
+          form = sym (pgn-same (s .announced .pgn)) ∙ h .pgn;
+          grants = λ r. h .max (kind-same (s .announced .kind) ∙ r);
+        };
+        key = all-of tests (
+          le-leb (s .announced .key .sa .0) 253 (h .sa),
+          (
+            ap not (ne-eqb (s .announced .key .sa .0) (own .0) (h .sa-other)),
+            (
+              eq-eqb (s .announced .key .da .0) (cond (isRts (s .announced .kind)) (own .0) 255) (h .da ∙ ap (λ (t : Bool). cond t (own .0) 255) (kind-same (s .announced .kind))),
+              (le-leb (s .announced .key .session .0) 15 (h .session), tt),
+            ),
+          ),
+        );
+        reached = record { low = h .next-low; high = h .next-high; ahead = λ r. h .granted (kind-same (s .announced .kind) ∙ r) };
+      })
+
+  -- its key is one of those that a frame can have
+  key-small : own .0 ≤ 253 → SessionIn own s → Small (s .announced .key)
+  key-small o h =
+      let a : s .announced .key .da .0 ≤ 255 = rw (h .da) (either (F.isRts (s .announced .kind))) in
+      let b : s .announced .key .session .0 ≤ 15 = h .session in
+      record { da = omega arith; session = omega arith }
+    where
+      either : (t : Bool) → cond t (own .0) 255 ≤ 255
+      either true = omega arith
+      either false = omega arith
+
+-- ---- a record
+
+state-of : (own : Address) (x : State) → stateOk own x ≡ true → (s : Session) → x ≡ Open s → sessionOk own s ≡ true
+state-of own x e s y = subst (λ (z : State). stateOk own z ≡ true) y e
+
+of-state : (own : Address) (x : State) → ((s : Session) → x ≡ Open s → sessionOk own s ≡ true) → stateOk own x ≡ true
+of-state own Closed f = refl
+of-state own (Open s) f = f s refl
+
+-- a state that holds a key is open with it
+held-by : (k : ℕ) (x : State) → holds k x ≡ true → (s : Session) × (x ≡ Open s) × (s .announced .key ≡ keyAt k)
+held-by k Closed e = absurd (clash (holds k Closed) e (holds-free k))
+held-by k (Open s) e = (s, refl, open-key k s e)
+
+holds-own : (x : State) (s : Session) → x ≡ Open s → Small (s .announced .key) → (t : Session) → s .announced .key ≡ t .announced .key → holds (keyNumber (t .announced .key)) x ≡ true
+unfolding holds
+holds-own x s e small t k =
+    rw e (keys-same (s .announced .key) (keyAt (keyNumber (t .announced .key))) (sym (ap (λ (κ : Key). keyAt (keyNumber κ)) (sym k) ∙ key-of (s .announced .key) small)))
+
+-- A record is in bounds exactly where all of 01's facts hold.
+pub in-bounds-exactly : (r : Receiver) → (inBounds r ≡ true → RecordIn r) × (RecordIn r → inBounds r ≡ true)
+unfolding inBounds
+in-bounds-exactly r = (into, out)
+  where
+    into : (openingOk (r .own) (r .limit) && slotsOk (r .own) (r .slots)) ≡ true → RecordIn r
+    into e =
+        let a = allowed (r .own) (r .limit) (and-left (openingOk (r .own) (r .limit)) (slotsOk (r .own) (r .slots)) e) in
+        let ok = and-right (openingOk (r .own) (r .limit)) (slotsOk (r .own) (r .slots)) e in
+        let one : (i : ℕ) (s : Session) → at (r .slots) i ≡ Open s
+        → SessionIn (r .own) s = λ i s y. session-in (r .own) s (state-of (r .own) (at (r .slots) i) (true-all (r .own) (r .slots) ok i) s y) in
+        record {
+          own = a .0;
+          limit-low = a .1;
+          limit-high = a .2;
+          sessions = one;
+          apart = λ i j s t y z k. true-unique (r .own) (r .slots) ok i j (keyNumber (t .announced .key))
+              (holds-own (at (r .slots) i) s y (key-small (r .own) s (a .0) (one i s y)) t k)
+              (holds-own (at (r .slots) j) t z (key-small (r .own) t (a .0) (one j t z)) t refl);
+        }
+
+    out : RecordIn r → (openingOk (r .own) (r .limit) && slotsOk (r .own) (r .slots)) ≡ true
+    out h =
+        both (openingOk (r .own) (r .limit)) (slotsOk (r .own) (r .slots)) (ok-of (r .own) (r .limit) (h .own, h .limit-low, h .limit-high))
+        (slots-true (r .own) (h .own) (r .slots)
+        (λ i j k e f.
+        let p = held-by k (at (r .slots) i) e in
+        let q = held-by k (at (r .slots) j) f in
+        h .apart i j (p .0) (q .0) (p .1) (q .1) (p .2 ∙ sym (q .2)))
+        (λ i. of-state (r .own) (at (r .slots) i) (λ s y. in-session (r .own) s (h .sessions i s y))))
+
+-- ---- calls
+
+-- the record in bounds, and a store of 32,768 bytes
+abbrev pub Ready : Receiver → List ℕ → Type 0
+Ready r m = RecordIn r × (length m ≡ 32768)
+
+not-ready : (r : Receiver) (m : List ℕ) → (Ready r m → ⊥) → isReady r m ≡ false
+not-ready r m n =
+    or-false (isReady r m) (λ e. n (in-bounds-exactly r .0 (and-right (eqb (length m) 32768) (inBounds r) e), eqb-true (length m) 32768 (and-left (eqb (length m) 32768) (inBounds r) e)))
+
+-- A frame is answered 23 exactly where not, and then nothing changes.
+pub frame-23-exactly : (r : Receiver) (id : ℕ) (d m : List ℕ)
+    → ((Ready r m → ⊥) → frameAll r id d m ≡ (refused r OutOfBounds, m)) × (Ready r m → answerNumber (frameStep r id d m .answer) ≡ 23 → ⊥)
+unfolding frameAll
+frame-23-exactly r id d m = (
+  (λ n. rw (not-ready r m n)),
+  (λ h. never-23 r id d m (in-bounds-exactly r .1 (h .0)) (h .1)),
+)
+
+-- The same of a reading.
+pub reading-23-exactly : (r : Receiver) (t : ℕ) (m : List ℕ)
+    → ((Ready r m → ⊥) → readingStep r t m ≡ record { next = r; answer = acceptance.Refused OutOfBounds; ends = replicate 8 stays })
+    × (Ready r m → readingStep r t m .answer ≡ acceptance.Accepted)
+reading-23-exactly r t m = (
+  (λ n. reading-refused r t m (not-ready r m n)),
+  (λ h. reading-never-23 r t m (in-bounds-exactly r .1 (h .0)) (h .1)),
+)

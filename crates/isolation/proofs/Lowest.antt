@@ -1,0 +1,157 @@
+-- The slot that an announcement takes: 01, "Announcement".
+use Prim.Native.Nat.{ℕ, _<_}
+use mathlib.Core.Path.{_≡_, refl, sym, ap, _∙_, subst}
+use mathlib.Core.Bool.{Bool, true, false, cond}
+use mathlib.Core.Option.{some}
+use mathlib.Core.List.{List}
+use native.Mathlib.Omega.{arith}
+use lib.ListN.{length}
+use lib.Seq.{getD-set-same, getD-set-other}
+use Rattle.frame.specs.Judge.{judged}
+use Rattle.frame.specs.Refusals.{numberOf}
+use Rattle.frame.specs.declared.refusal.Refusal.{Refusal}
+use Rattle.frame.specs.declared.refusal.Refusal.the-variants.{FrameLength, IdentifierRange, NotTaken, HeaderCut, DataCut, ServiceType, TrailerFormat, PgnForm, TransferLength, NotReceivers, AnnouncementForm, TooLong, Assurance, KeyOpen, SlotsFull, KeyNotOpen, FormatIndicator, AlreadyTaken, OutOfSequence, SegmentCut, StatusMismatch, Silence, OutOfBounds, PackRequest}
+use Rattle.transport.specs.Kinds.{isRts}
+use Rattle.transport.specs.declared.Key.{Key}
+use Rattle.transport.specs.declared.control.Announcement.{Announcement}
+use Rattle.answer.specs.declared.Answer.the-variants as answer
+use Rattle.answer.specs.Answers.{answerNumber}
+use Rattle.session.specs.declared.State.{State}
+use Rattle.session.specs.declared.State.the-variants.{Closed, Open}
+use Rattle.session.specs.declared.Step.{Step}
+use Rattle.session.specs.declared.announcement.Form.{Form}
+use Rattle.session.specs.declared.announcement.Form.the-variants as form
+use Rattle.session.specs.Announcements.{misdirected, formOf, sessionOf}
+use Rattle.session.specs.Decisions.{refused as refuse, rejection, opening, onForm, announcedTo}
+use Rattle.slots.specs.declared.Slot.{Slot}
+use Rattle.slots.specs.declared.Found.{Found}
+use Rattle.slots.specs.declared.Found.the-variants.{At, Nothing}
+use Rattle.slots.specs.Slots.{keyPlace, firstFree, slotFor, stateIn, isAt, orElse, freeSlot, freeState}
+use Rattle.receiver.specs.declared.Receiver.{Receiver}
+use Rattle.receiver.specs.Calls.{Outcome, apply, isReady, refused, onVerdict, frameAll, frameStep}
+use Rattle.isolation.specs.OwnFrames.{keyAt, frameKey, announce, bodyOf}
+use Rattle.isolation.proofs.Tests.{clash}
+use Rattle.slots.specs.Searches.{lowest-some, lowest-below}
+use Rattle.isolation.proofs.Slots.{at, holds, holds-free, find-some, find-none}
+use Rattle.isolation.proofs.Read.{Takes, frame-agrees}
+
+-- the session of key k opens in the lowest free slot, marked with the last reading; nothing else of the record changes
+pub record OpensLowest (r : Receiver) (k : ℕ) (a : Announcement) (r′ : Receiver) : Type 0 where
+  pub slot : ℕ
+  pub inside : slot < length (r .slots)
+  pub free : at (r .slots) slot ≡ Closed
+  pub lower-open : (j : ℕ) → j < slot → freeState (at (r .slots) j) ≡ false
+  pub key-closed : (j : ℕ) → holds k (at (r .slots) j) ≡ false
+  pub opens : at (r′ .slots) slot ≡ Open (sessionOf (keyAt k) a (r .last))
+  pub others : (j : ℕ) → (j ≡ slot → ⊥) → at (r′ .slots) j ≡ at (r .slots) j
+  pub own : r′ .own ≡ r .own
+  pub limit : r′ .limit ≡ r .limit
+  pub last : r′ .last ≡ r .last
+
+-- ---- an announcement that is accepted meets a closed key and room
+
+rejects : (κ : Key) (a : Announcement) (n : Refusal) → answerNumber (rejection κ a n) ≡ numberOf n
+rejects κ a n = go (isRts (a .kind))
+  where
+    go : (t : Bool) → answerNumber (cond t (answer.RefusedRts (record { key = κ; refusal = n; pgn = a .pgn })) (answer.Refused n)) ≡ numberOf n
+    go true = refl
+    go false = refl
+
+-- every refusal has a number
+pub some-number : (n : Refusal) → numberOf n ≡ 0 → ⊥
+some-number FrameLength e = omega arith
+some-number IdentifierRange e = omega arith
+some-number NotTaken e = omega arith
+some-number HeaderCut e = omega arith
+some-number DataCut e = omega arith
+some-number ServiceType e = omega arith
+some-number TrailerFormat e = omega arith
+some-number PgnForm e = omega arith
+some-number TransferLength e = omega arith
+some-number NotReceivers e = omega arith
+some-number AnnouncementForm e = omega arith
+some-number TooLong e = omega arith
+some-number Assurance e = omega arith
+some-number KeyOpen e = omega arith
+some-number SlotsFull e = omega arith
+some-number KeyNotOpen e = omega arith
+some-number FormatIndicator e = omega arith
+some-number AlreadyTaken e = omega arith
+some-number OutOfSequence e = omega arith
+some-number SegmentCut e = omega arith
+some-number StatusMismatch e = omega arith
+some-number Silence e = omega arith
+some-number OutOfBounds e = omega arith
+some-number PackRequest e = omega arith
+
+module _ (κ : Key) (a : Announcement) (last : ℕ) where
+  abbrev Accepts : State → Bool → Step → Type 0
+  Accepts x room st = (x ≡ Closed) × (room ≡ true) × (st ≡ opening κ a last)
+
+  for-form : (f : Form) (x : State) (room : Bool) → answerNumber (onForm f x room κ a last .answer) ≡ 0 → Accepts x room (onForm f x room κ a last)
+  for-form (form.Bad n) x room e = absurd (some-number n (sym (rejects κ a n) ∙ e))
+  for-form form.Good (Open s) room e = absurd (some-number KeyOpen (sym (rejects κ a KeyOpen) ∙ e))
+  for-form form.Good Closed true e = (refl, refl, refl)
+  for-form form.Good Closed false e = absurd (some-number SlotsFull (sym (rejects κ a SlotsFull) ∙ e))
+
+  pub accepts : (x : State) (room : Bool) → answerNumber (announcedTo x room κ a last .answer) ≡ 0 → Accepts x room (announcedTo x room κ a last)
+  unfolding announcedTo
+  accepts x room e = go (misdirected (κ .da) (a .kind)) e
+    where
+      go : (t : Bool) → answerNumber (cond t (refuse AnnouncementForm) (onForm (formOf a) x room κ a last) .answer) ≡ 0
+          → Accepts x room (cond t (refuse AnnouncementForm) (onForm (formOf a) x room κ a last))
+      go true e = absurd (some-number AnnouncementForm e)
+      go false e = for-form (formOf a) x room e
+
+-- ---- the slot for its key is then the lowest free one
+
+module _ (r : Receiver) (k : ℕ) (a : Announcement) where
+  abbrev step : Found → Step
+  step f = announcedTo (stateIn f (r .slots)) (isAt f) (keyAt k) a (r .last)
+
+  -- f: the slot for the key; g: the one that has it open
+  taken-in : (f g : Found) → keyPlace (keyAt k) (r .slots) ≡ g → orElse g (firstFree (r .slots)) ≡ f → answerNumber (step f .answer) ≡ 0
+      → OpensLowest r k a (apply r f (step f) .next)
+  taken-in Nothing g p e z = absurd (clash (isAt Nothing) (accepts (keyAt k) a (r .last) Closed false z .1) refl)
+  taken-in (At i) (At j) p e z = absurd (clash (holds k (at (r .slots) j)) (find-some k (r .slots) j p .0) (rw shut (holds-free k)))
+    where
+      same : At j ≡ At i → j ≡ i
+      same q = cc
+
+      shut : at (r .slots) j ≡ Closed
+      shut = ap (at (r .slots)) (same e) ∙ accepts (keyAt k) a (r .last) (at (r .slots) i) true z .0
+  taken-in (At i) Nothing p e z =
+      let acc = accepts (keyAt k) a (r .last) (at (r .slots) i) true z in
+      let low : i < length (r .slots) = lowest-some (r .slots) i e .1 in
+      subst (λ (st : Step). OpensLowest r k a (apply r (At i) st .next)) (sym (acc .2))
+      (record {
+        slot = i;
+        inside = low;
+        free = lowest-some (r .slots) i e .0;
+        lower-open = lowest-below (r .slots) i e;
+        key-closed = find-none k (r .slots) p;
+        opens = ap (λ (x : Slot). x .state) (getD-set-same (r .slots) i _ freeSlot low);
+        others = λ j ne. ap (λ (x : Slot). x .state) (getD-set-other (r .slots) i j _ freeSlot ne);
+        own = refl;
+        limit = refl;
+        last = refl;
+      })
+
+-- On every record and buffer: an own announcement that is not refused takes the lowest free slot.
+pub lowest-taken : (r : Receiver) (id : ℕ) (d m : List ℕ) (a : Announcement) → bodyOf (r .own) id d ≡ some (announce a) → answerNumber (frameStep r id d m .answer) ≡ 0
+    → OpensLowest r (frameKey id d) a (frameStep r id d m .next)
+unfolding frameAll
+lowest-taken r id d m a body zero-is = go (isReady r m) zero-is
+  where
+    o : Outcome
+    o = onVerdict (judged (r .own) id (length d)) r d m
+
+    read : Takes r d m (keyAt (frameKey id d)) o (some (announce a)) → answerNumber (o .0 .answer) ≡ 0 → OpensLowest r (frameKey id d) a (o .0 .next)
+    read t z =
+        subst (λ (x : Outcome). OpensLowest r (frameKey id d) a (x .0 .next)) (sym (t .0))
+        (taken-in r (frameKey id d) a (slotFor (keyAt (frameKey id d)) (r .slots)) (keyPlace (keyAt (frameKey id d)) (r .slots)) refl refl
+        (subst (λ (x : Outcome). answerNumber (x .0 .answer) ≡ 0) (t .0) z))
+
+    go : (t : Bool) → answerNumber (cond t o (refused r OutOfBounds, m) .0 .answer) ≡ 0 → OpensLowest r (frameKey id d) a (cond t o (refused r OutOfBounds, m) .0 .next)
+    go true z = read (subst (Takes r d m (keyAt (frameKey id d)) o) body (frame-agrees r id d m .does)) z
+    go false z = absurd (some-number OutOfBounds z)

@@ -1,0 +1,51 @@
+use Prim.Native.Nat.{ℕ}
+use native.Mathlib.Omega.{arith}
+use mathlib.Core.Path.{refl}
+use mathlib.Core.List.{List, [], _∷_, _++_}
+use denote.Ref.{now}
+use Rattle.record_bytes.specs.Written.{next-field}
+use Rattle.record_bytes.specs.Places.{ownPlace, limitPlace, lastPlace}
+use Rattle.record_bytes.specs.Layout.{low4, headBytes}
+use borrow.Author.Needs.{needs}
+use Rattle.record_bytes.proofs.put.put_head.Statement.{statement}
+use Rattle.record_bytes.proofs.put.put_head.Tie as tie
+
+slice-aggregate-copy : tie.Need-slice-aggregate-copy
+slice-aggregate-copy c = search needs
+
+copy-requires : tie.Need-copy-requires
+copy-requires c κs = search needs
+
+put-word-requires : tie.Need-put-word-requires
+put-word-requires c κs = search needs
+
+put-last-requires : tie.Need-put-last-requires
+put-last-requires c κs = search needs
+
+same-length : tie.Need-same-length
+same-length c = search needs
+
+returns : tie.Need-returns
+unfolding headBytes
+returns c =
+    let third = c .before .before in
+    let second = third .before .before .before .before in
+    let first = second .before .before .before .before in
+    let a = first .before .before .before .before .args in
+    let d = now (a .out) in
+    let own : List ℕ = a .r .own .0 ∷ [] in
+    let limit = low4 (a .r .limit) [] in
+    next-field d ownPlace (own ++ limit) lastPlace (low4 (a .r .last) [])
+    (next-field d ownPlace own limitPlace limit (first .copy .ensures) (second .put-word .ensures) refl (omega arith))
+    (third .put-last .ensures) refl (omega arith)
+
+pub put-head-spec : {M : Type 1} → statement M
+put-head-spec =
+    tie.close
+    (tie.spec
+    slice-aggregate-copy
+    copy-requires
+    put-word-requires
+    put-last-requires
+    same-length
+    returns)
