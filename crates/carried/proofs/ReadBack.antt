@@ -24,7 +24,7 @@ use Rattle.record_bytes.specs.RoundTrip.{fourBytes, low32-read-back}
 use Rattle.transport.specs.declared.response.Response.{Response}
 use Rattle.transport.specs.Responses.{responseBytes, responseId}
 use Rattle.answer.specs.Answers.{answerNumber, answerSends, sendingOf, endSends, wireOf}
-use Rattle.answer_bytes.specs.Places.{answerLength}
+use Rattle.answer_bytes.specs.Places.{answerLength, numberPlace}
 use Rattle.answer_bytes.specs.declared.Fields.{Fields}
 use Rattle.answer_bytes.specs.Answers.{fieldsOf, fieldsBytes, sentBytes, answerBytes}
 use Rattle.isolation.specs.Replies.{Wire, Says, Reply, ended}
@@ -118,7 +118,7 @@ sent-back f (some x) g = ap (λ (n : ℕ). some (n, responseBytes x)) (low32-rea
 pub wire-back : (a : Answer) → WireFits (wireOf (answerSends a)) → wireAt (answerBytes a) ≡ wireOf (answerSends a)
 wire-back a g = sent-back (fieldsOf a) (answerSends a) g
 
-number-back : (a : Answer) → getD (answerBytes a) 0 0 ≡ answerNumber a
+number-back : (a : Answer) → getD (answerBytes a) numberPlace 0 ≡ answerNumber a
 unfolding fieldsBytes
 number-back (Groups route) = refl
 number-back (Opened k) = refl

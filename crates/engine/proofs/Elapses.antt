@@ -23,7 +23,7 @@ use Rattle.answer.specs.declared.Ending.{Ending}
 use Rattle.answer.specs.declared.Acceptance.the-variants as acceptance
 use Rattle.answer.specs.declared.SlotEnd.{SlotEnd}
 use Rattle.receiver.specs.Calls.{isReady, afterEnd, expiredState, expired, endOf, slotEnd, stays, readingKept, readingStep}
-use Rattle.record_bytes.specs.Places.{recordLength, headLength, slotLength, lastPlace, slotPlace}
+use Rattle.record_bytes.specs.Places.{recordLength, headLength, slotLength, lastPlace, statePlace, slotPlace}
 use Rattle.record_bytes.specs.Layout.{low4, slotAt, piecesOf, slotsAt, recordAt}
 use Rattle.record_bytes.specs.Keeping.{kept, merged}
 use Rattle.record_bytes.specs.Kept.{Bytes, Good, kept-same, good-piece, put-elapsed}
@@ -76,9 +76,9 @@ module _ (b : List ℕ) (i limit t : ℕ) (low : i < 8) (long : length b ≡ rec
     pub open-ends : (d : Ending) → z ≡ end.Ended d → (o : List ℕ) → o ≡ paste b at (replicate slotLength 0) slotLength
         → _≡_ {A = SlotEnd × List ℕ} (record { end = end.Ended d }, o) (slotElapsed b i limit t)
     open-ends d h o p =
-        let one : getD piece 0 0 ≡ 1 = eqb-true _ _ (open-code piece s (eqb (getD piece 0 0) 1) refl (sym (ap (λ (x : Slot). x .state) (slot-of b i)) ∙ e)) in
+        let one : getD piece statePlace 0 ≡ 1 = eqb-true _ _ (open-code piece s (eqb (getD piece statePlace 0) 1) refl (sym (ap (λ (x : Slot). x .state) (slot-of b i)) ∙ e)) in
         let w : SlotEnd = record { end = end.Ended d } in
-        ap (λ (l : List ℕ). (w, l)) (p ∙ ap (λ (u : Bool). paste b at (cond u piece (replicate slotLength 0)) slotLength) (sym (ne-eqb (getD piece 0 0) 0 (λ q. omega arith))))
+        ap (λ (l : List ℕ). (w, l)) (p ∙ ap (λ (u : Bool). paste b at (cond u piece (replicate slotLength 0)) slotLength) (sym (ne-eqb (getD piece statePlace 0) 0 (λ q. omega arith))))
         ∙ ap open-by (sym h ∙ ez)
         ∙ ap by (sym e)
 

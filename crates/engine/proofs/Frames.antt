@@ -17,6 +17,7 @@ use Rattle.answer.specs.declared.Answer.{Answer}
 use Rattle.answer.specs.declared.Answer.the-variants.{Groups, Refused}
 use Rattle.receiver.specs.Bounds.{inBounds}
 use Rattle.receiver.specs.Calls.{answered, isReady, groupsStep, onVerdict, frameAll}
+use Rattle.record_bytes.specs.Places.{ownPlace}
 use Rattle.record_bytes.specs.Layout.{isRecord, recordAt}
 use Rattle.record_bytes.specs.Kept.{Bytes, keep}
 use Rattle.lent_record.specs.Ready.{readyIn, Ready, ready-of}
@@ -42,7 +43,7 @@ module _ (b : List ℕ) (id : ℕ) (d m : List ℕ) (t : Bool) (et : t ≡ ready
     unfolding frameIn
     by-whole x e = then (readyIn b (length m)) _ _ _ (sym et ∙ not-false _ h) e
 
-    pub by-verdict : (own : Address) (v z : Verdict) (x : InBytes) → own .0 ≡ getD b 0 0 → v ≡ judged own id (length d) → v ≡ z
+    pub by-verdict : (own : Address) (v z : Verdict) (x : InBytes) → own .0 ≡ getD b ownPlace 0 → v ≡ judged own id (length d) → v ≡ z
         → x ≡ outcomeIn b (onVerdict z (recordAt b) d m) → x ≡ frameIn b id d m
     unfolding frameAll
     by-verdict own v z x eo ev ez e =

@@ -22,7 +22,7 @@ use Rattle.slots.specs.declared.Found.{Found}
 use Rattle.slots.specs.declared.Found.the-variants.{At, Nothing}
 use Rattle.slots.specs.Slots.{freeSlot, onFound}
 use Rattle.receiver.specs.Calls.{answered, withSlot, applied, apply}
-use Rattle.record_bytes.specs.Places.{slotLength, progressLength, slotPlace, progressPlace}
+use Rattle.record_bytes.specs.Places.{slotLength, progressLength, statePlace, slotPlace, progressPlace}
 use Rattle.record_bytes.specs.Layout.{progressBytes, sessionBytes, sessionAt, piecesOf, slotsAt, recordAt}
 use Rattle.record_bytes.specs.Keeping.{putIn}
 use Rattle.record_bytes.specs.Kept.{keep, put-one, put-forward}
@@ -33,7 +33,7 @@ abbrev isOpen : State → Bool
 isOpen Closed = false
 isOpen (Open s) = true
 
-pub open-code : (p : List ℕ) (s : Session) (t : Bool) → t ≡ eqb (getD p 0 0) 1 → _≡_ {A = State} (cond t (Open (sessionAt p)) Closed) (Open s) → t ≡ true
+pub open-code : (p : List ℕ) (s : Session) (t : Bool) → t ≡ eqb (getD p statePlace 0) 1 → _≡_ {A = State} (cond t (Open (sessionAt p)) Closed) (Open s) → t ≡ true
 open-code p s true e h = refl
 open-code p s false e h = ap isOpen h
 
@@ -68,9 +68,9 @@ module _ (b : List ℕ) (h : Holds b) where
         go Closed q n = absurd n
         go (Open s) q n =
             let w : List ℕ = getD (piecesOf b) i [] in
-            let one : getD w 0 0 ≡ 1 = eqb-true _ _ (open-code w s (eqb (getD w 0 0) 1) refl (sym (ap (λ (x : Slot). x .state) (slot-of b i)) ∙ q)) in
+            let one : getD w statePlace 0 ≡ 1 = eqb-true _ _ (open-code w s (eqb (getD w statePlace 0) 1) refl (sym (ap (λ (x : Slot). x .state) (slot-of b i)) ∙ q)) in
             p
-            ∙ ap (λ (t : Bool). paste b (slotPlace i) (cond t w (replicate slotLength 0)) slotLength) (sym (ne-eqb (getD w 0 0) 0 (λ z. omega arith)))
+            ∙ ap (λ (t : Bool). paste b (slotPlace i) (cond t w (replicate slotLength 0)) slotLength) (sym (ne-eqb (getD w statePlace 0) 0 (λ z. omega arith)))
             ∙ sym (put-one b (h .bytes) (h .codes) i Closed low)
 
   -- a step by the slot that was found

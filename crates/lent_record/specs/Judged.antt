@@ -16,7 +16,7 @@ use Rattle.session.specs.declared.State.the-variants.{Closed, Open}
 use Rattle.session.specs.Bounds.{sessionOk, stateOk}
 use Rattle.slots.specs.Bounds.{openingOk, anyHolds, stateTwin, slotsOk}
 use Rattle.receiver.specs.Bounds.{inBounds}
-use Rattle.record_bytes.specs.Places.{recordLength, headLength, slotLength, slotPlace}
+use Rattle.record_bytes.specs.Places.{recordLength, headLength, slotLength, statePlace, kindPlace, slotPlace}
 use Rattle.record_bytes.specs.Layout.{codesOk, sessionAt, slotAt, piecesOf, slotsAt, codesAll, isRecord, recordAt}
 use Rattle.record_bytes.specs.Pieces.{length-pieces, piece-of, byte-of}
 use Rattle.lent_record.specs.Ready.{readyIn}
@@ -24,11 +24,11 @@ use Rattle.lent_record.specs.Ready.{readyIn}
 -- a slot whose first byte is not 0, with the pieces after it
 unfoldable pub openReady : Address → List ℕ → List (List ℕ) → Bool
 openReady own p ps =
-    codesOk (getD p 0 0) (getD p 1 0) && sessionOk own (sessionAt p) && not (anyHolds (sessionAt p .announced .key) (map slotAt ps))
+    codesOk (getD p statePlace 0) (getD p kindPlace 0) && sessionOk own (sessionAt p) && not (anyHolds (sessionAt p .announced .key) (map slotAt ps))
 
 unfoldable pub piecesReady : Address → List (List ℕ) → Bool
 piecesReady own [] = true
-piecesReady own (p ∷ ps) = (eqb (getD p 0 0) 0 || openReady own p ps) && piecesReady own ps
+piecesReady own (p ∷ ps) = (eqb (getD p statePlace 0) 0 || openReady own p ps) && piecesReady own ps
 
 -- ---- the same as all codes, and then all slots
 
@@ -57,8 +57,8 @@ pub pieces-ready : (own : Address) (ps : List (List ℕ)) → piecesReady own ps
 unfolding piecesReady openReady codesAll slotsOk
 pieces-ready own [] = refl
 pieces-ready own (p ∷ ps) =
-    let n : ℕ = getD p 0 0 in
-    let k : ℕ = getD p 1 0 in
+    let n : ℕ = getD p statePlace 0 in
+    let k : ℕ = getD p kindPlace 0 in
     ap (λ (t : Bool). (eqb n 0 || (codesOk n k && sessionOk own (sessionAt p) && not (anyHolds (sessionAt p .announced .key) (map slotAt ps)))) && t) (pieces-ready own ps)
     ∙ by-code own (sessionAt p) (map slotAt ps) (eqb n 0) (eqb n 1) (eqb k 1 || eqb k 2) (codesAll ps) (slotsOk own (map slotAt ps)) (two-codes n)
 
@@ -76,9 +76,9 @@ unfolding piecesReady
 ready-turn own b i h =
     let at : ℕ = slotPlace i in
     let ps : List (List ℕ) = drop (i + 1) (piecesOf b) in
-    let e : at + 0 ≡ at = omega arith in
+    let e : at + statePlace ≡ at = omega arith in
     turn (piecesReady own) (piecesOf b) i [] (omega (arith, length-pieces 8 (drop headLength b)))
-    ∙ ap (λ (x : ℕ). (eqb x 0 || openReady own (getD (piecesOf b) i []) ps) && piecesReady own ps) (byte-of b i 0 h (omega arith) ∙ ap (λ (m : ℕ). getD b m 0) e)
+    ∙ ap (λ (x : ℕ). (eqb x 0 || openReady own (getD (piecesOf b) i []) ps) && piecesReady own ps) (byte-of b i statePlace h (omega arith) ∙ ap (λ (m : ℕ). getD b m 0) e)
 
 and-four : (a b c d r : Bool) → (a && b && c && d && r) ≡ (a && (b && (c && (d && r))))
 and-four a b c d r = simp and-assoc
@@ -118,7 +118,7 @@ drop-map [] (suc n) = refl
 drop-map (p ∷ ps) (suc n) = drop-map ps n
 
 module _ (own : Address) (b : List ℕ) (i : ℕ) (h : i < 8) where
-  module _ (x : Bool) (ex : x ≡ codesOk (getD b (slotPlace i) 0) (getD b (slotPlace i + 1) 0)) where
+  module _ (x : Bool) (ex : x ≡ codesOk (getD b (slotPlace i) 0) (getD b (slotPlace i + kindPlace) 0)) where
     judged : (y z : Bool) (s : Session) → s ≡ sessionAt (take slotLength (drop (slotPlace i) b)) → y ≡ sessionOk own s → z ≡ anyHolds (s .announced .key) (drop (i + 1) (slotsAt b))
         → (x && y && not z) ≡ openReady own (getD (piecesOf b) i []) (drop (i + 1) (piecesOf b))
     unfolding openReady
@@ -126,14 +126,14 @@ module _ (own : Address) (b : List ℕ) (i : ℕ) (h : i < 8) where
         let at : ℕ = slotPlace i in
         let p : List ℕ = getD (piecesOf b) i [] in
         let ss : List Slot = drop (i + 1) (slotsAt b) in
-        let e : at ≡ at + 0 = omega arith in
+        let e : at ≡ at + statePlace = omega arith in
         ap (λ (u : Bool). u && y && not z) (ex
-        ∙ ap (λ (n : ℕ). codesOk n (getD b (at + 1) 0)) (ap (λ (m : ℕ). getD b m 0) e ∙ sym (byte-of b i 0 h (omega arith)))
-        ∙ ap (codesOk (getD p 0 0)) (sym (byte-of b i 1 h (omega arith))))
-        ∙ ap (λ (u : Bool). codesOk (getD p 0 0) (getD p 1 0) && u && not z) ey
-        ∙ ap (λ (u : Bool). codesOk (getD p 0 0) (getD p 1 0) && sessionOk own s && not u) ez
-        ∙ ap (λ (v : Session). codesOk (getD p 0 0) (getD p 1 0) && sessionOk own v && not (anyHolds (v .announced .key) ss)) (es ∙ ap sessionAt (sym (piece-of b i h)))
-        ∙ ap (λ (l : List Slot). codesOk (getD p 0 0) (getD p 1 0) && sessionOk own (sessionAt p) && not (anyHolds (sessionAt p .announced .key) l)) (drop-map (piecesOf b) (i + 1))
+        ∙ ap (λ (n : ℕ). codesOk n (getD b (at + kindPlace) 0)) (ap (λ (m : ℕ). getD b m 0) e ∙ sym (byte-of b i statePlace h (omega arith)))
+        ∙ ap (codesOk (getD p statePlace 0)) (sym (byte-of b i kindPlace h (omega arith))))
+        ∙ ap (λ (u : Bool). codesOk (getD p statePlace 0) (getD p kindPlace 0) && u && not z) ey
+        ∙ ap (λ (u : Bool). codesOk (getD p statePlace 0) (getD p kindPlace 0) && sessionOk own s && not u) ez
+        ∙ ap (λ (v : Session). codesOk (getD p statePlace 0) (getD p kindPlace 0) && sessionOk own v && not (anyHolds (v .announced .key) ss)) (es ∙ ap sessionAt (sym (piece-of b i h)))
+        ∙ ap (λ (l : List Slot). codesOk (getD p statePlace 0) (getD p kindPlace 0) && sessionOk own (sessionAt p) && not (anyHolds (sessionAt p .announced .key) l)) (drop-map (piecesOf b) (i + 1))
 
     pub no-codes : x ≡ false → false ≡ openReady own (getD (piecesOf b) i []) (drop (i + 1) (piecesOf b))
     no-codes f =

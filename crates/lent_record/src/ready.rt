@@ -4,7 +4,7 @@ ghost use Prim.Native.Nat.{ℕ, _+_, _<_, _≤_};
 ghost use mathlib.Core.List.{[]};
 ghost use lib.ListN.{length, getD, drop};
 ghost use Rattle.record_bytes.specs.Layout.{piecesOf};
-ghost use Rattle.record_bytes.specs.Places.{recordLength};
+ghost use Rattle.record_bytes.specs.Places.{recordLength, ownPlace};
 ghost use Rattle.lent_record.specs.Ready.{readyIn};
 ghost use Rattle.lent_record.specs.Judged.{openReady, twoReady, piecesReady};
 use super::search::any_holds;
@@ -25,7 +25,7 @@ use slots::bounds::session_ok;
 // The own address. What is lent are bytes: each is below 256.
 pub fn own_of(bytes: &[u8]) -> Address
     requires { ⌜ 1 ≤ length (now bytes) ⌝ }
-    ensures { λ r. ⌜ (r .0 ≡ getD (now (bytes .entry)) 0 0) × ((i : ℕ) → getD (now (bytes .entry)) i 0 < 256) ⌝ }
+    ensures { λ r. ⌜ (r .0 ≡ getD (now (bytes .entry)) ownPlace 0) × ((i : ℕ) → getD (now (bytes .entry)) i 0 < 256) ⌝ }
 {
     Address(bytes[OWN_AT])
 }
