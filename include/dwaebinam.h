@@ -50,9 +50,11 @@ enum { DWB_RTS = 1, DWB_BAM = 2 };
      DWB_GROUPS        the frame's groups are good             none; dwb_groups gives the groups                    nothing
      DWB_OPENED        a BAM has opened a session              key; the kind is 0                                   nothing
      DWB_TAKEN         a segment was taken                     key, segment; the kind is 0                          nothing
-     DWB_GRANT         an RTS has opened a session, or a       key, kind DWB_RTS, count, PGN, segment               CTS
-                       segment was taken that used up the
-                       grant: the one before the next
+     DWB_GRANT         an RTS has opened a session or, sent    key, kind DWB_RTS, count, PGN, segment               CTS
+                       again, started it anew: the next
+                       segment is 1; or a segment was taken
+                       that used up the grant: the one
+                       before the next
      DWB_HANDED_OVER   an EOMS has ended a session that has    key, kind, slot, PGN, Total Bytes, segment           EOMA for an RTS
                        every segment
      DWB_ABORTED       the originator has ended its session    key; the kind is 0                                   nothing

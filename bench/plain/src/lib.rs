@@ -1,5 +1,5 @@
-//! The data link in plain Rust, to measure against and to compare with: frames, groups, packing and the receiver. Written from 01; shares
-//! nothing with crates/.
+//! The data link in plain Rust, to measure against and to compare with: frames, groups, packing and the receiver. Written from 01 and E1 of
+//! 02; shares nothing with crates/.
 
 pub mod receiver;
 

@@ -332,8 +332,10 @@ impl<const CHECKED: bool> Receiver<CHECKED> {
         if !is_pgn(s.pgn) {
             return Err(8);
         }
-        if self.find(s.key).is_some() {
-            return Err(14);
+        if let Some(slot) = self.find(s.key) {
+            let open = self.slots[slot].as_ref().expect("an open slot");
+            // 02, E1: the RTS of an open session once more starts it anew
+            return if !s.is_bam && s.pgn == open.pgn { Ok(slot) } else { Err(14) };
         }
         self.slots.iter().position(Option::is_none).ok_or(15)
     }

@@ -25,13 +25,14 @@ use Rattle.session.specs.InBounds.{sound-of}
 use Rattle.receiver.specs.declared.Receiver.{Receiver}
 use Rattle.receiver.specs.Bounds.{inBounds}
 use Rattle.receiver.specs.Calls.{Outcome, refused, isReady, onVerdict, frameAll, frameStep}
-use Rattle.isolation.specs.Standard.{Cause, inPgnForm}
+use Rattle.isolation.specs.Standard.{Cause}
 use Rattle.isolation.specs.OwnFrames as own-frames
 use Rattle.isolation.specs.OwnFrames.{keyAt, frameKey, Body, announce, segment, status, abort, bodyOf}
 use Rattle.isolation.specs.Replies.{Wire, Reply, sent, reject, ending, cts, plain, handOver}
-use Rattle.isolation.specs.Rules.{Values, Open, Out, misdirected, badNumbers, isOpen, opens, announced, nextOf, isTaken, due, adds, spent, segmentOpen, asAnnounced, statusOpen, abortOpen, ifOpen, rule}
+use Rattle.isolation.specs.Rules.{Values, Open, Out, opens, announced, nextOf, isTaken, due, adds, spent, segmentOpen, asAnnounced, statusOpen, abortOpen, ifOpen, rule}
 use Rattle.isolation.specs.Observe.{replyOf}
 use Rattle.isolation.specs.Stands.{valuesOf, standsFor}
+use Rattle.isolation.proofs.Announced.{Comes, astray, refused as turned-away, accepted, comes}
 use Rattle.isolation.proofs.Single.{bodyStep}
 use Rattle.isolation.proofs.Read.{Plain, plain-sends, Takes, frame-agrees, frame-mine}
 use Rattle.isolation.proofs.Many.{Sim, own-small, body-fit}
@@ -93,17 +94,17 @@ module _ (k : ℕ) (low : k < 1048576) where
   unfolding handOver sent
   hand-fits a bytes = wire-if (own-frames.isRts (a .kind)) _ _ key-fits tt
 
+  opens-fits : (last : ℕ) (a : Announcement) → Sends (opens k last a .1)
+  unfolding opens
+  opens-fits last a = reply-if (own-frames.isRts (a .kind)) _ _ (cts-fits _ _ _) tt
+
   announce-fits : (own : Address) (last : ℕ) (eight : Bool) (x : Option Open) (a : Announcement) → Sends (announced own k last eight x a .1)
-  unfolding announced opens
-  announce-fits own last eight x a =
-      sends-if (misdirected own k (a .kind)) _ _ tt
-      (sends-if (badNumbers a) _ _ (reject-fits a _)
-      (sends-if (ltb 4096 (a .total .0)) _ _ (reject-fits a _)
-      (sends-if (not (eqb (a .assurance) 0)) _ _ (reject-fits a _)
-      (sends-if (not (inPgnForm (a .pgn))) _ _ (reject-fits a _)
-      (sends-if (isOpen x) _ _ (reject-fits a _)
-      (sends-if eight _ _ (reject-fits a _)
-      (reply-if (own-frames.isRts (a .kind)) _ _ (cts-fits _ _ _) tt)))))))
+  announce-fits own last eight x a = go (comes k last a own eight x)
+    where
+      go : {q : Out} → Comes k last x a q → Sends (q .1)
+      go astray = tt
+      go (turned-away c) = reject-fits a c
+      go (accepted good) = opens-fits last a
 
   segment-fits : (last : ℕ) (ρ : Open) (n : ℕ) (d : List ℕ) → Sends (segmentOpen k last ρ n d .1)
   unfolding segmentOpen adds

@@ -44,7 +44,7 @@ use Rattle.session.specs.declared.segment.Judged.{Judged}
 use Rattle.session.specs.Announcements.{misdirected, badNumbers, formOf, firstCts}
 use Rattle.session.specs.Segments.{dueOf, judgedOf, nextCts}
 use Rattle.session.specs.Ends.{statusMatches}
-use Rattle.session.specs.Decisions.{ifOpen, rejection, onForm, announcedTo, onJudged, segmentOpen, segmentTo, statusTo, abortTo}
+use Rattle.session.specs.Decisions.{ifOpen, rejection, acceptedIf, isRestart, onForm, announcedTo, onJudged, segmentOpen, segmentTo, statusTo, abortTo}
 use Rattle.receiver.specs.declared.Receiver.{Receiver}
 use Rattle.receiver.specs.Calls.{Outcome, refused, announceStep, statusStep, abortStep, controlStep, onControl, segmentStep, onData, isReady, groupsStep, onVerdict, frameAll}
 use Rattle.isolation.specs.Standard.{fdLengths, isOneOf}
@@ -80,11 +80,15 @@ module _ (x : State) (room : Bool) (κ : Key) (a : Announcement) (last : ℕ) wh
   late-form true f g e h = e
   late-form false f g e h = h
 
+  late-accepted : (t : Bool) (n : Refusal) → isLater (numberOf n) ≡ true → Late (acceptedIf t n κ a last .answer)
+  unfolding isLater isOneOf
+  late-accepted true n e = late (isRts (a .kind)) (answer.Grant (firstCts κ a)) (answer.Opened κ) refl refl
+  late-accepted false n e = late-rejection κ a n e
+
   late-good : (y : State) (u : Bool) → Late (onForm form.Good y u κ a last .answer)
   unfolding isLater isOneOf
-  late-good (Open s) u = late-rejection κ a KeyOpen refl
-  late-good Closed true = late (isRts (a .kind)) (answer.Grant (firstCts κ a)) (answer.Opened κ) refl refl
-  late-good Closed false = late-rejection κ a SlotsFull refl
+  late-good (Open s) u = late-accepted (isRestart s a) KeyOpen refl
+  late-good Closed u = late-accepted u SlotsFull refl
 
   announce-late : Late (announcedTo x room κ a last .answer)
   unfolding announcedTo formOf isLater isOneOf

@@ -23,7 +23,10 @@ pub mod Own
 pub mod Elapsed
 pub mod Limits
 pub mod Demand3
+pub mod Announced
+pub mod Kept
 pub mod Message
+pub mod Restart
 pub mod Table
 pub mod WholeCase
 pub mod WholeTable

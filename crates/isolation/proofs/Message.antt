@@ -9,7 +9,7 @@ use native.Mathlib.Decide.{ℕ-discrete}
 use lib.Dec.{eqb, ltb}
 use lib.ListN.{length, take, length-take, length-append}
 use borrow.Author.Tests.{ltb-false, eqb-true, eqb-false, eq-eqb, ne-eqb, not-false}
-use Rattle.isolation.specs.Standard.{Cause, pgnWrong, numbersWrong, tooLong, assured, keyOpen, eightOpen, inPgnForm}
+use Rattle.isolation.specs.Standard.{Cause}
 use Rattle.transport.specs.declared.control.Announcement.{Announcement}
 use Rattle.transport.specs.declared.control.Status.{Status}
 use Rattle.session.specs.Segments.{dueOf}
@@ -18,10 +18,12 @@ use Rattle.isolation.specs.Replies as P
 use Rattle.isolation.specs.Rules as R
 use Rattle.isolation.specs.OwnFrames.{Body, announce, segment, status, abort}
 use Rattle.isolation.specs.Replies.{Reply, Says, nothing, reject, ending, cts, handOver}
-use Rattle.isolation.specs.Rules.{Values, Open, Out, State, Piece, nextOf, closes, opens, announced, due, sixties, spent, adds, asAnnounced, segmentOpen, statusOpen, abortOpen, rule, ifOpen, joined, pieceAt, isTaken, isOpen, judgedAt, Input, mine, now, nextState, fresh}
+use Rattle.isolation.specs.Rules.{Values, Open, Out, State, Piece, nextOf, closes, opens, announced, due, sixties, spent, adds, asAnnounced, segmentOpen, statusOpen, abortOpen, rule, ifOpen, joined, pieceAt, isTaken, isOpen, Input, mine, now, nextState, fresh}
 use Rattle.isolation.specs.World.{after}
 use Rattle.isolation.proofs.Tests.{or-false, clash, or-left, or-right, and-left, or-1, or-2}
 use Rattle.isolation.proofs.Same.{sixties-same, due-same}
+use Rattle.isolation.proofs.Announced.{Comes, astray, refused, accepted, comes}
+use Rattle.isolation.proofs.Kept.{IfOpen, Passes, rule-keeps, reading-keeps}
 
 -- ---- what an open session has taken
 
@@ -36,10 +38,9 @@ pub record Whole (ρ : Open) : Type 0 where
   pub upto : length (ρ .pieces) ≤ ρ .told .segments .0
 
 abbrev pub WholeIf : Option Open → Type 0
-WholeIf none = Unit {0}
-WholeIf (some ρ) = Whole ρ
+WholeIf x = IfOpen Whole x
 
-taken-in : (total : ℕ) (xs : List Piece) → Filled total xs → (n : ℕ) → 1 ≤ n → n ≤ length xs → isTaken n xs ≡ true
+pub taken-in : (total : ℕ) (xs : List Piece) → Filled total xs → (n : ℕ) → 1 ≤ n → n ≤ length xs → isTaken n xs ≡ true
 unfolding isTaken
 taken-in total [] f n l u = absurd (omega arith)
 taken-in total (x ∷ xs) f n l u = go (ℕ-discrete (suc (length xs)) n) (taken-in total xs (f .2) n l)
@@ -70,47 +71,32 @@ joined-length total segments xs f s (suc n) u h =
 
 -- ---- each own frame keeps it
 
-keeps-cond : (t : Bool) (q q′ : Out) → (t ≡ true → WholeIf (q .0)) → (t ≡ false → WholeIf (q′ .0)) → WholeIf (cond t q q′ .0)
-keeps-cond true q q′ f g = f refl
-keeps-cond false q q′ f g = g refl
+pub opens-whole : (k last : ℕ) (a : Announcement) → R.badNumbers a ≡ false → WholeIf (opens k last a .0)
+unfolding opens R.badNumbers
+opens-whole k last a bad = record {
+  count = eqb-true (a .segments .0) (sixties (a .total .0)) (not-false (eqb (a .segments .0) (sixties (a .total .0)))
+      (or-left (not (eqb (a .segments .0) (sixties (a .total .0)))) (F.isRts (a .kind) && eqb (a .max) 0)
+      (or-right (eqb (a .total .0) 0) (not (eqb (a .segments .0) (sixties (a .total .0))) || (F.isRts (a .kind) && eqb (a .max) 0)) bad)));
+  filled = tt;
+  upto = omega arith;
+}
 
-announce-keeps : (v : Values) (k last : ℕ) (eight : Bool) (x : Option Open) (a : Announcement) → WholeIf x → WholeIf (announced (v .own) k last eight x a .0)
-unfolding announced opens R.badNumbers
-announce-keeps v k last eight x a h =
-    keeps-cond (R.misdirected (v .own) k (a .kind)) _ _ (λ _. h) (λ _.
-    keeps-cond (eqb (a .total .0) 0 || (not (eqb (a .segments .0) (sixties (a .total .0))) || (F.isRts (a .kind) && eqb (a .max) 0))) _ _ (λ _. h) (λ bad.
-    keeps-cond (ltb 4096 (a .total .0)) _ _ (λ _. h) (λ _.
-    keeps-cond (not (eqb (a .assurance) 0)) _ _ (λ _. h) (λ _.
-    keeps-cond (not (inPgnForm (a .pgn))) _ _ (λ _. h) (λ _.
-    keeps-cond (isOpen x) _ _ (λ _. h) (λ _.
-    keeps-cond eight _ _ (λ _. h) (λ _.
-    record {
-      count = eqb-true (a .segments .0) (sixties (a .total .0)) (not-false (eqb (a .segments .0) (sixties (a .total .0)))
-          (or-left (not (eqb (a .segments .0) (sixties (a .total .0)))) (F.isRts (a .kind) && eqb (a .max) 0)
-          (or-right (eqb (a .total .0) 0) (not (eqb (a .segments .0) (sixties (a .total .0))) || (F.isRts (a .kind) && eqb (a .max) 0)) bad)));
-      filled = tt;
-      upto = omega arith;
-    })))))))
-
-segment-keeps : (k last : ℕ) (ρ : Open) (n : ℕ) (d : List ℕ) → Whole ρ → WholeIf (segmentOpen k last ρ n d .0)
-unfolding segmentOpen adds
-segment-keeps k last ρ n d h =
-    keeps-cond (eqb n 0 || isTaken n (ρ .pieces)) _ _ (λ _. h) (λ a.
-    keeps-cond (ltb (nextOf ρ) n || ltb (ρ .told .segments .0) n) _ _ (λ _. tt) (λ b.
-    keeps-cond (ltb (length d) (due (ρ .told .total .0) n)) _ _ (λ _. h) (λ c.
-    let l₀ : n ≡ 0 → ⊥ = eqb-false n 0 (or-left (eqb n 0) (isTaken n (ρ .pieces)) a) in
-    let l₂ : n ≤ length (ρ .pieces) + 1 = ltb-false (length (ρ .pieces) + 1) n (or-left (ltb (nextOf ρ) n) (ltb (ρ .told .segments .0) n) b) in
-    let l₃ : n ≤ ρ .told .segments .0 = ltb-false (ρ .told .segments .0) n (or-right (ltb (nextOf ρ) n) (ltb (ρ .told .segments .0) n) b) in
-    let l₄ : due (ρ .told .total .0) n ≤ length d = ltb-false (length d) (due (ρ .told .total .0) n) c in
+adds-whole : (k last : ℕ) (ρ : Open) (n : ℕ) (d : List ℕ) → Whole ρ → Passes ρ n d → WholeIf (adds k last ρ n d .0)
+unfolding adds
+adds-whole k last ρ n d h p =
+    let l₀ : n ≡ 0 → ⊥ = eqb-false n 0 (or-left (eqb n 0) (isTaken n (ρ .pieces)) (p .new)) in
+    let l₂ : n ≤ length (ρ .pieces) + 1 = ltb-false (length (ρ .pieces) + 1) n (or-left (ltb (nextOf ρ) n) (ltb (ρ .told .segments .0) n) (p .next)) in
+    let l₃ : n ≤ ρ .told .segments .0 = ltb-false (ρ .told .segments .0) n (or-right (ltb (nextOf ρ) n) (ltb (ρ .told .segments .0) n) (p .next)) in
+    let l₄ : due (ρ .told .total .0) n ≤ length d = ltb-false (length d) (due (ρ .told .total .0) n) (p .enough) in
     let l₁ : n ≤ length (ρ .pieces)
     → ⊥ = (λ u. clash (isTaken n (ρ .pieces)) (taken-in (ρ .told .total .0) (ρ .pieces) (h .filled) n (omega arith) u)
-    (or-right (eqb n 0) (isTaken n (ρ .pieces)) a)) in
+    (or-right (eqb n 0) (isTaken n (ρ .pieces)) (p .new))) in
     let e : n ≡ suc (length (ρ .pieces)) = next n (length (ρ .pieces)) l₁ l₂ in
     record {
       count = h .count;
       filled = (e, size e l₄, h .filled);
       upto = omega arith;
-    })))
+    }
   where
     next : (n c : ℕ) → (n ≤ c → ⊥) → n ≤ c + 1 → n ≡ suc c
     next n c a b = omega arith
@@ -121,33 +107,17 @@ segment-keeps k last ρ n d h =
         least : (a b : ℕ) → a ≤ b → min a b ≡ a
         least a b h = omega arith
 
-pub rule-keeps : (v : Values) (k last : ℕ) (eight : Bool) (x : Option Open) (b : Body) → WholeIf x → WholeIf (rule v k last eight x b .0)
-unfolding rule statusOpen abortOpen
-rule-keeps v k last eight x (announce a) h = announce-keeps v k last eight x a h
-rule-keeps v k last eight x (segment format n d) h = keeps-cond (not (eqb format 0)) _ _ (λ _. h) (λ _. go x h)
-  where
-    go : (x : Option Open) → WholeIf x → WholeIf (ifOpen x (λ r. segmentOpen k last r n d) .0)
-    go none h = tt
-    go (some ρ) h = segment-keeps k last ρ n d h
-rule-keeps v k last eight none (status s) h = tt
-rule-keeps v k last eight (some ρ) (status s) h = keeps-cond (asAnnounced ρ s) _ _ (λ _. tt) (λ _. tt)
-rule-keeps v k last eight none (abort pgn) h = tt
-rule-keeps v k last eight (some ρ) (abort pgn) h = keeps-cond (eqb pgn (ρ .told .pgn)) _ _ (λ _. tt) (λ _. h)
+pub rule-whole : (v : Values) (k last : ℕ) (eight : Bool) (x : Option Open) (b : Body) → WholeIf x → WholeIf (rule v k last eight x b .0)
+rule-whole v k last eight x b =
+    rule-keeps Whole v k last eight x b (opens-whole k last) (λ format n d e ρ. adds-whole k last ρ n d)
 
 -- ... and so does every list of frames and readings, from the opening on
-pub after-keeps : (v : Values) (k : ℕ) (s : State) (xs : List Input) → WholeIf (s .session) → WholeIf (after v k s xs .session)
-unfolding after nextState judgedAt
-after-keeps v k s [] h = h
-after-keeps v k s (mine eight b ∷ xs) h = after-keeps v k (nextState v k s (mine eight b)) xs (rule-keeps v k (s .last) eight (s .session) b h)
-after-keeps v k s (now t ∷ xs) h = after-keeps v k (nextState v k s (now t)) xs (reading-keeps (s .session) h)
-  where
-    reading-keeps : (x : Option Open) → WholeIf x → WholeIf (judgedAt v t x)
-    reading-keeps none h = tt
-    reading-keeps (some ρ) h = go (R.isSilent v t ρ)
-      where
-        go : (b : Bool) → WholeIf (cond b none (some ρ))
-        go true = tt
-        go false = h
+pub after-whole : (v : Values) (k : ℕ) (s : State) (xs : List Input) → WholeIf (s .session) → WholeIf (after v k s xs .session)
+unfolding after nextState
+after-whole v k s [] h = h
+after-whole v k s (mine eight b ∷ xs) h =
+    after-whole v k (nextState v k s (mine eight b)) xs (rule-whole v k (s .last) eight (s .session) b h)
+after-whole v k s (now t ∷ xs) h = after-whole v k (nextState v k s (now t)) xs (reading-keeps Whole v t (s .session) h)
 
 -- ---- a message handed over
 
@@ -161,10 +131,11 @@ isHanded (P.aborted k) = false
 isHanded (P.ended k kind pgn) = false
 isHanded (P.rejected k pgn) = false
 
--- the open session of the key is closed, and its message is its data joined, Total Bytes in all
+-- the open session of the key has every segment and is closed, and its message is its data joined, Total Bytes in all
 pub record Hands (k : ℕ) (x : Option Open) (q : Out) : Type 0 where
   pub session : Open
   pub was : x ≡ some session
+  pub all-in : length (session .pieces) ≡ session .told .segments .0
   pub closed : q .0 ≡ none
   pub reply : q .1 ≡ handOver k (session .told) (joined (session .told .segments .0) (session .pieces))
   pub size : length (joined (session .told .segments .0) (session .pieces)) ≡ session .told .total .0
@@ -185,18 +156,18 @@ reject-quiet : (k : ℕ) (a : Announcement) (c : Cause) → isHanded (reject k a
 unfolding reject
 reject-quiet k a c = quiet-reply (F.isRts (a .kind)) _ _ refl refl
 
+opens-quiet : (k last : ℕ) (a : Announcement) → isHanded (opens k last a .1 .says) ≡ false
+unfolding opens cts
+opens-quiet k last a = quiet-reply (F.isRts (a .kind)) _ _ refl refl
+
 announce-hands : (v : Values) (k last : ℕ) (eight : Bool) (x : Option Open) (a : Announcement)
     → isHanded (announced (v .own) k last eight x a .1 .says) ≡ true → Hands k x (announced (v .own) k last eight x a)
-unfolding announced opens cts
-announce-hands v k last eight x a =
-    hands-cond k x (R.misdirected (v .own) k (a .kind)) _ _ (λ _. not-handed k x _ refl) (λ _.
-    hands-cond k x (R.badNumbers a) _ _ (λ _. not-handed k x _ (reject-quiet k a numbersWrong)) (λ _.
-    hands-cond k x (ltb 4096 (a .total .0)) _ _ (λ _. not-handed k x _ (reject-quiet k a tooLong)) (λ _.
-    hands-cond k x (not (eqb (a .assurance) 0)) _ _ (λ _. not-handed k x _ (reject-quiet k a assured)) (λ _.
-    hands-cond k x (not (inPgnForm (a .pgn))) _ _ (λ _. not-handed k x _ (reject-quiet k a pgnWrong)) (λ _.
-    hands-cond k x (isOpen x) _ _ (λ _. not-handed k x _ (reject-quiet k a keyOpen)) (λ _.
-    hands-cond k x eight _ _ (λ _. not-handed k x _ (reject-quiet k a eightOpen)) (λ _.
-    not-handed k x _ (quiet-reply (F.isRts (a .kind)) _ _ refl refl))))))))
+announce-hands v k last eight x a = go (comes k last a (v .own) eight x)
+  where
+    go : {q : Out} → Comes k last x a q → isHanded (q .1 .says) ≡ true → Hands k x q
+    go astray = not-handed k x _ refl
+    go (refused c) = not-handed k x _ (reject-quiet k a c)
+    go (accepted good) = not-handed k x _ (opens-quiet k last a)
 
 segment-hands : (k last : ℕ) (ρ : Open) (n : ℕ) (d : List ℕ) → isHanded (segmentOpen k last ρ n d .1 .says) ≡ true → Hands k (some ρ) (segmentOpen k last ρ n d)
 unfolding segmentOpen adds cts ending
@@ -222,13 +193,10 @@ status-hands k ρ s h =
     (eqb (length (ρ .pieces)) (ρ .told .segments .0) &&
     (eqb (s .total .0) (ρ .told .total .0) &&
     (eqb (s .segments .0) (ρ .told .segments .0) && (eqb (s .assurance) (ρ .told .assurance) && eqb (s .pgn) (ρ .told .pgn))))) _ _
-    (λ t _. record {
-      session = ρ;
-      was = refl;
-      closed = refl;
-      reply = refl;
-      size = all-joined ρ h (eqb-true (length (ρ .pieces)) (ρ .told .segments .0) (and-left (eqb (length (ρ .pieces)) (ρ .told .segments .0)) _ t));
-    })
+    (λ t _.
+    let e : length (ρ .pieces) ≡ ρ .told .segments .0 =
+    eqb-true (length (ρ .pieces)) (ρ .told .segments .0) (and-left (eqb (length (ρ .pieces)) (ρ .told .segments .0)) _ t) in
+    record { session = ρ; was = refl; all-in = e; closed = refl; reply = refl; size = all-joined ρ h e })
     (λ _. not-handed k (some ρ) _ refl)
 
 -- In whatever state a list of frames and readings left the rules: a frame that hands over closes the session, and the message is its data
@@ -258,4 +226,4 @@ pub message-whole : (v : Values) (k first : ℕ) (xs : List Input) (eight : Bool
     → let s : State = after v k (fresh first) xs in
     isHanded (rule v k (s .last) eight (s .session) b .1 .says) ≡ true → Hands k (s .session) (rule v k (s .last) eight (s .session) b)
 message-whole v k first xs eight b =
-    hands-over v k (after v k (fresh first) xs .last) eight (after v k (fresh first) xs .session) b (after-keeps v k (fresh first) xs tt)
+    hands-over v k (after v k (fresh first) xs .last) eight (after v k (fresh first) xs .session) b (after-whole v k (fresh first) xs tt)

@@ -37,7 +37,7 @@ use Rattle.session.specs.Announcements.{formOf, sessionOf, firstCts}
 use Rattle.session.specs.Segments.{dueOf, judgedOf, nextCts}
 use Rattle.session.specs.Ends.{statusMatches}
 use Rattle.session.specs.Decisions as D
-use Rattle.session.specs.Decisions.{stays, refused, rejection, forKey, onForm, announcedTo, onJudged, segmentTo, messageOf, statusTo, abortTo}
+use Rattle.session.specs.Decisions.{stays, refused, rejection, isRestart, forKey, onForm, announcedTo, onJudged, segmentTo, messageOf, statusTo, abortTo}
 use Rattle.session.specs.Bounds.{sessionOk}
 use Rattle.session.specs.InBounds.{KeyTaken, opened-ok, moved-ok, sound-of}
 use Rattle.slots.specs.declared.Found.{Found}
@@ -51,7 +51,7 @@ use Rattle.isolation.specs.Replies as P
 use Rattle.isolation.specs.Rules as R
 use Rattle.isolation.specs.OwnFrames.{keyAt, Body, announce, segment, status, abort}
 use Rattle.isolation.specs.Replies.{Reply, reject, refuse, abortFrame, ending, cts, plain, sent, handOver, handed}
-use Rattle.isolation.specs.Rules.{Values, Open, Out, Piece, closes, opens, announced, grant, due, spent, adds, asAnnounced, rule, joined, isOpen, isTaken}
+use Rattle.isolation.specs.Rules.{Values, Open, Out, Piece, closes, opens, startsAnew, admitted, announced, grant, due, spent, adds, asAnnounced, rule, joined, isTaken}
 use Rattle.isolation.specs.Observe.{saysOf, replyOf, touches}
 use Rattle.isolation.proofs.Tests.{or-left, or-right, and-left}
 use Rattle.isolation.proofs.Slots.{other-key}
@@ -111,7 +111,7 @@ module _ (v : Values) (k : ℕ) (f : Found) (m : List ℕ) (x : Option Open) (y 
   -- an announcement; what is left is one of good form
   announce-tied : Mine v k → (eight room : Bool) (last : ℕ) (a : Announcement)
       → (S.misdirected (keyAt k .da) (a .kind) ≡ false → formOf a ≡ form.Good → a .assurance ≡ 0
-      → Tied v k f m x y (forKey y room (keyAt k) a last) m (cond (isOpen x) (x, reject k a keyOpen) (cond eight (x, reject k a eightOpen) (opens k last a))))
+      → Tied v k f m x y (forKey y room (keyAt k) a last) m (admitted k last eight x a))
       → Tied v k f m x y (announcedTo y room (keyAt k) a last) m (announced (v .own) k last eight x a)
   unfolding announcedTo announced formOf
   announce-tied me eight room last a good =
@@ -127,13 +127,13 @@ module _ (v : Values) (k : ℕ) (f : Found) (m : List ℕ) (x : Option Open) (y 
       Formed : Form → Out → Type 0
       Formed z q = Tied v k f m x y (onForm z y room (keyAt k) a last) m q
 
--- ---- a key that is closed
+-- ---- an announcement that is accepted opens in the slot found, whatever was there
 
 module _ (v : Values) (k : ℕ) (f : Found) (m : List ℕ) (whole : length m ≡ 32768) (me : Mine v k) (last : ℕ) where
-  opens-tied : (i : ℕ) → f ≡ At i → (a : Announcement) → S.misdirected (keyAt k .da) (a .kind) ≡ false → formOf a ≡ form.Good → a .assurance ≡ 0
-      → Tied v k f m none is.Closed (D.opening (keyAt k) a last) m (opens k last a)
+  opens-tied : (x : Option Open) (y : State) (i : ℕ) → f ≡ At i → (a : Announcement) → S.misdirected (keyAt k .da) (a .kind) ≡ false → formOf a ≡ form.Good → a .assurance ≡ 0
+      → Tied v k f m x y (D.opening (keyAt k) a last) m (opens k last a)
   unfolding opens replyOf saysOf touches cts sent cut
-  opens-tied i e a aimed good sure = record {
+  opens-tied x y i e a aimed good sure = record {
     reply = reply-cond m (answer.Grant (firstCts (keyAt k) a)) (answer.Opened (keyAt k)) (isRts (a .kind)) (F.isRts (a .kind))
         (cts k 1 (grant (a .max) (a .segments .0)) (a .pgn)) (plain (P.opened (keyAt k)))
         (kind-same (a .kind)) (rw (grant-same (a .max) (a .segments .0))) refl;
@@ -152,19 +152,22 @@ module _ (v : Values) (k : ℕ) (f : Found) (m : List ℕ) (whole : length m ≡
       same : sessionOf (keyAt k) a last ≡ recordOf k ρ
       same = rw (kind-same (a .kind), grant-same (a .max) (a .segments .0))
 
+  -- ---- a key that is closed
+
   -- `eight` says that there is no slot
   room-tied : (eight : Bool) → eight ≡ not (isAt f) → (a : Announcement) → S.misdirected (keyAt k .da) (a .kind) ≡ false → formOf a ≡ form.Good → a .assurance ≡ 0
-      → Tied v k f m none is.Closed (forKey is.Closed (isAt f) (keyAt k) a last) m (cond eight (none, reject k a eightOpen) (opens k last a))
+      → Tied v k f m none is.Closed (forKey is.Closed (isAt f) (keyAt k) a last) m (admitted k last eight none a)
+  unfolding admitted
   room-tied eight e a aimed good sure = rw e (go f refl)
     where
       go : (g : Found) → f ≡ g → Tied v k f m none is.Closed (forKey is.Closed (isAt g) (keyAt k) a last) m (cond (not (isAt g)) (none, reject k a eightOpen) (opens k last a))
-      go (At i) h = opens-tied i h a aimed good sure
+      go (At i) h = opens-tied none is.Closed i h a aimed good sure
       go Nothing h = reject-tied v k f m none is.Closed a eightOpen
 
   pub shut-tied : (eight : Bool) → eight ≡ not (isAt f) → (b : Body) (d : List ℕ)
       → Tied v k f m none is.Closed (asked is.Closed (isAt f) (slotOf f) last (keyAt k) b)
       (leaves b (asked is.Closed (isAt f) (slotOf f) last (keyAt k) b) f is.Closed d m) (rule v k last eight none b)
-  unfolding rule isOpen segmentTo statusTo abortTo
+  unfolding rule segmentTo statusTo abortTo
   shut-tied eight e (announce a) d = announce-tied v k f m none is.Closed me eight (isAt f) last a (room-tied eight e a)
   shut-tied eight e (segment format n z) d =
       walk (λ (st : Step) (q : Out). Tied v k f m none is.Closed st (storedBy (st .change) f is.Closed n d m) q) (not (eqb format 0)) (not (eqb format 0)) refl
@@ -342,14 +345,28 @@ module _ (v : Values) (k i : ℕ) (low : suc i ≤ 8) (m : List ℕ) (whole : le
           ap (λ (xs : List Piece). eqb n 0 || isTaken n xs) (rel .pieces)
           ∙ taken-same (ρ .told .total .0) (length (ρ .pieces)) (part i m) n
 
+  -- ---- an announcement: the RTS of the session once more starts it anew (02, E1), all else is 14
+
+  anew-same : (a : Announcement) → startsAnew a ρ ≡ isRestart (recordOf k ρ) a
+  unfolding startsAnew
+  anew-same a = ap (λ (t : Bool). t && eqb (a .pgn) (ρ .told .pgn)) (kind-same (a .kind))
+
+  again-tied : (eight room : Bool) (a : Announcement) → S.misdirected (keyAt k .da) (a .kind) ≡ false → formOf a ≡ form.Good → a .assurance ≡ 0
+      → Ties (forKey (is.Open (recordOf k ρ)) room (keyAt k) a last) m (admitted k last eight (some ρ) a)
+  unfolding admitted
+  again-tied eight room a aimed good sure =
+      walk (λ (z : Step) (q : Out). Ties z m q) (isRestart (recordOf k ρ) a) (startsAnew a ρ) (anew-same a)
+      (λ _. opens-tied v k (At i) m whole me last (some ρ) (is.Open (recordOf k ρ)) i refl a aimed good sure)
+      (λ _. reject-tied v k (At i) m (some ρ) (is.Open (recordOf k ρ)) a keyOpen)
+
   -- ---- an own frame, by what it says
 
   pub held-tied : (eight room : Bool) (b : Body) (d : List ℕ) → Reads d b
       → let y : State = is.Open (recordOf k ρ) in
       Ties (asked y room i last (keyAt k) b) (leaves b (asked y room i last (keyAt k) b) (At i) y d m) (rule v k last eight (some ρ) b)
-  unfolding rule isOpen segmentTo statusTo abortTo
+  unfolding rule segmentTo statusTo abortTo
   held-tied eight room (announce a) d e =
-      announce-tied v k (At i) m (some ρ) (is.Open (recordOf k ρ)) me eight room last a (λ aimed good sure. reject-tied v k (At i) m (some ρ) (is.Open (recordOf k ρ)) a keyOpen)
+      announce-tied v k (At i) m (some ρ) (is.Open (recordOf k ρ)) me eight room last a (again-tied eight room a)
   held-tied eight room (segment format n z) d e =
       rw e (walk (λ (st : Step) (q : Out). Ties st (storedBy (st .change) (At i) (is.Open (recordOf k ρ)) n d m) q) (not (eqb format 0)) (not (eqb format 0)) refl
       (λ _. refuse-tied v k (At i) m (some ρ) (is.Open (recordOf k ρ)) FormatIndicator) (λ _. segment-tied n d))

@@ -1,5 +1,5 @@
--- One session by itself: 01, "One session by itself", with the checks, answers and marks of "Life of a session". One key; no slots, no
--- store.
+-- One session by itself: 01, "One session by itself", with the checks, answers and marks of "Life of a session", as 02 changes them. One
+-- key; no slots, no store.
 use Prim.Native.Nat.{ℕ, zero, suc, _+_, _-_, _*_, _/_, _%_, _^_}
 use mathlib.Core.Bool.{Bool, true, false, cond, not, _&&_, _||_}
 use mathlib.Core.Option.{Option, none, some}
@@ -94,7 +94,17 @@ opens k last a =
       cond (isRts (a .kind)) (cts k 1 count (a .pgn)) (plain (opened (keyAt k))),
     )
 
--- 11 with nothing sent, 11, 12, 13, 8, 14, 15
+-- an RTS of the PGN announced: 02, E1
+unfoldable pub startsAnew : Announcement → Open → Bool
+startsAnew a r = isRts (a .kind) && eqb (a .pgn) (r .told .pgn)
+
+-- one in good form. A closed key opens, or 15 where eight others are open. An open one opens anew, with none taken, whatever others are
+-- open; or 14
+unfoldable pub admitted : ℕ → ℕ → Bool → Option Open → Announcement → Out
+admitted k last eight none a = cond eight (none, reject k a eightOpen) (opens k last a)
+admitted k last eight (some r) a = cond (startsAnew a r) (opens k last a) (some r, reject k a keyOpen)
+
+-- 11 with nothing sent, 11, 12, 13, 8, then by the session
 unfoldable pub announced : Address → ℕ → ℕ → Bool → Option Open → Announcement → Out
 announced own k last eight x a =
     cond (misdirected own k (a .kind)) (x, refuse 11)
@@ -102,9 +112,7 @@ announced own k last eight x a =
     (cond (ltb 4096 (a .total .0)) (x, reject k a tooLong)
     (cond (not (eqb (a .assurance) 0)) (x, reject k a assured)
     (cond (not (inPgnForm (a .pgn))) (x, reject k a pgnWrong)
-    (cond (isOpen x) (x, reject k a keyOpen)
-    (cond eight (x, reject k a eightOpen)
-    (opens k last a)))))))
+    (admitted k last eight x a)))))
 
 -- ---- a segment
 

@@ -31,7 +31,7 @@ pub data Cause : Type 0 where
   tooLong : Cause
   -- it has assurance data
   assured : Cause
-  -- its key is open
+  -- its key is open, and it does not start the session anew
   keyOpen : Cause
   -- eight sessions are open
   eightOpen : Cause

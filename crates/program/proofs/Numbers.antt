@@ -49,7 +49,7 @@ use Rattle.session.specs.declared.segment.Judged.the-variants as judgement
 use Rattle.session.specs.Announcements.{misdirected, formOf, firstCts}
 use Rattle.session.specs.Segments.{dueOf, judgedOf, nextCts}
 use Rattle.session.specs.Ends.{statusMatches, isIdle}
-use Rattle.session.specs.Decisions.{stays, ended, ifOpen, rejection, forKey, onForm, announcedTo, onJudged, segmentOpen, segmentTo, messageOf, statusTo, abortTo, endingOf}
+use Rattle.session.specs.Decisions.{stays, ended, ifOpen, rejection, acceptedIf, isRestart, forKey, onForm, announcedTo, onJudged, segmentOpen, segmentTo, messageOf, statusTo, abortTo, endingOf}
 use Rattle.session.specs.Bounds.{stateOk, sessionOk}
 use Rattle.session.specs.InBounds.{sound-of}
 use Rattle.session.specs.Fits.{Small}
@@ -163,10 +163,13 @@ announce-small x room k a last h = go (misdirected (k .da) (a .kind)) (formOf a)
     rejects : (n : Refusal) → AnswerSmall (rejection k a n)
     rejects n = either (isRts (a .kind)) _ _ h tt
 
+    accepted : (t : Bool) (n : Refusal) → AnswerSmall (acceptedIf t n k a last .answer)
+    accepted true n = either (isRts (a .kind)) (answer.Grant (firstCts k a)) (answer.Opened k) (h, grant-small (a .max) (a .segments .0)) h
+    accepted false n = rejects n
+
     for-key : (x : State) (room : Bool) → AnswerSmall (forKey x room k a last .answer)
-    for-key (Open s) room = rejects KeyOpen
-    for-key Closed false = rejects SlotsFull
-    for-key Closed true = either (isRts (a .kind)) (answer.Grant (firstCts k a)) (answer.Opened k) (h, grant-small (a .max) (a .segments .0)) h
+    for-key (Open s) room = accepted (isRestart s a) KeyOpen
+    for-key Closed room = accepted room SlotsFull
 
     go : (t : Bool) (f : Form) → AnswerSmall (cond t (stays (answer.Refused AnnouncementForm)) (onForm f x room k a last) .answer)
     go true f = tt

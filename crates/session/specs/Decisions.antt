@@ -1,6 +1,7 @@
--- What a frame or a reading makes of one session, and what is answered: 01, "Life of a session". A session that is not open is Closed.
+-- What a frame or a reading makes of one session, and what is answered: 01, "Life of a session", as 02 changes it. A session that is not
+-- open is Closed.
 use Prim.Native.Nat.{ℕ}
-use mathlib.Core.Bool.{Bool, cond, not}
+use mathlib.Core.Bool.{Bool, cond, not, _&&_}
 use lib.Dec.{eqb}
 use Rattle.frame.specs.declared.refusal.Refusal.{Refusal}
 use Rattle.frame.specs.declared.refusal.Refusal.the-variants.{AnnouncementForm, KeyOpen, SlotsFull, KeyNotOpen, FormatIndicator, StatusMismatch, Silence}
@@ -80,16 +81,23 @@ opening k a last =
       answer = cond (isRts (a .kind)) (answer.Grant (firstCts k a)) (answer.Opened k);
     }
 
--- 14, 15
+abbrev pub acceptedIf : Bool → Refusal → Key → Announcement → ℕ → Step
+acceptedIf admitted n k a last = cond admitted (opening k a last) (stays (rejection k a n))
+
+-- 02, E1: an RTS of the PGN announced is the open session's own once more, and the last one counts (001, 6.6.3.1)
+abbrev pub isRestart : Session → Announcement → Bool
+isRestart s a = isRts (a .kind) && eqb (a .pgn) (s .announced .pgn)
+
+-- an open key takes a restart, whether or not there is a slot free, and is 14 to all else; a closed one is 15 where there is no slot
 abbrev pub forKey : State → Bool → Key → Announcement → ℕ → Step
-forKey (Open s) room k a last = stays (rejection k a KeyOpen)
-forKey Closed room k a last = cond room (opening k a last) (stays (rejection k a SlotsFull))
+forKey (Open s) room k a last = acceptedIf (isRestart s a) KeyOpen k a last
+forKey Closed room k a last = acceptedIf room SlotsFull k a last
 
 abbrev pub onForm : Form → State → Bool → Key → Announcement → ℕ → Step
 onForm form.Good x room k a last = forKey x room k a last
 onForm (form.Bad n) x room k a last = stays (rejection k a n)
 
--- 11 with nothing sent for a wrong destination; 11, 12, 13, 8; 14, 15
+-- 11 with nothing sent for a wrong destination; 11, 12, 13, 8; then by the key's session
 unfoldable pub announcedTo : State → Bool → Key → Announcement → ℕ → Step
 announcedTo x room k a last =
     cond (misdirected (k .da) (a .kind)) (refused AnnouncementForm) (onForm (formOf a) x room k a last)

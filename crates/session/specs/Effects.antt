@@ -31,7 +31,7 @@ use Rattle.session.specs.declared.segment.Judged.the-variants as judged
 use Rattle.session.specs.Announcements.{misdirected, badNumbers, formOf, sessionOf, firstCts}
 use Rattle.session.specs.Segments.{dueOf, judgedOf, nextCts}
 use Rattle.session.specs.Ends.{statusMatches}
-use Rattle.session.specs.Decisions.{stays, ended, ifOpen, rejection, forKey, onForm, announcedTo, onJudged, segmentOpen, segmentTo, messageOf, statusTo, abortTo}
+use Rattle.session.specs.Decisions.{stays, ended, ifOpen, rejection, acceptedIf, isRestart, forKey, onForm, announcedTo, onJudged, segmentOpen, segmentTo, messageOf, statusTo, abortTo}
 
 -- numbers of refusals that end no session and have nothing to do with bounds
 abbrev pub mild : ℕ → Bool
@@ -66,14 +66,17 @@ rejects x k a n e = go (isRts (a .kind))
     go true = refuses x (answer.RefusedRts (record { key = k; refusal = n; pgn = a .pgn })) e
     go false = refuses x (answer.Refused n) e
 
-for-key-effect : (x : State) (room : Bool) (k : Key) (a : Announcement) (last : ℕ) → Effect x (forKey x room k a last)
-for-key-effect (Open s) room k a last = rejects (Open s) k a KeyOpen refl
-for-key-effect Closed false k a last = rejects Closed k a SlotsFull refl
-for-key-effect Closed true k a last = go (isRts (a .kind))
+accepted-effect : (x : State) (t : Bool) (n : Refusal) (k : Key) (a : Announcement) (last : ℕ) → mild (numberOf n) ≡ true → Effect x (acceptedIf t n k a last)
+accepted-effect x false n k a last e = rejects x k a n e
+accepted-effect x true n k a last e = go (isRts (a .kind))
   where
-    go : (t : Bool) → Effect Closed (record { change = Opens (sessionOf k a last); answer = cond t (answer.Grant (firstCts k a)) (answer.Opened k) })
+    go : (t : Bool) → Effect x (record { change = Opens (sessionOf k a last); answer = cond t (answer.Grant (firstCts k a)) (answer.Opened k) })
     go true = accepts refl
     go false = accepts refl
+
+for-key-effect : (x : State) (room : Bool) (k : Key) (a : Announcement) (last : ℕ) → Effect x (forKey x room k a last)
+for-key-effect (Open s) room k a last = accepted-effect (Open s) (isRestart s a) KeyOpen k a last refl
+for-key-effect Closed room k a last = accepted-effect Closed room SlotsFull k a last refl
 
 pub announce-effect : (x : State) (room : Bool) (k : Key) (a : Announcement) (last : ℕ) → Effect x (announcedTo x room k a last)
 unfolding announcedTo formOf
@@ -149,10 +152,13 @@ pub announce-hands : (x : State) (room : Bool) (slot : ℕ) (k : Key) (a : Annou
 unfolding announcedTo
 announce-hands x room slot k a last = go (misdirected (k .da) (a .kind)) (formOf a)
   where
+    accepted : (x : State) (t : Bool) (n : Refusal) → Hands x slot (acceptedIf t n k a last .answer)
+    accepted x true n = either x slot (isRts (a .kind)) _ _ tt tt
+    accepted x false n = quiet-reject x slot k a n
+
     for-key : (x : State) (room : Bool) → Hands x slot (forKey x room k a last .answer)
-    for-key (Open s) room = quiet-reject (Open s) slot k a KeyOpen
-    for-key Closed false = quiet-reject Closed slot k a SlotsFull
-    for-key Closed true = either Closed slot (isRts (a .kind)) _ _ tt tt
+    for-key (Open s) room = accepted (Open s) (isRestart s a) KeyOpen
+    for-key Closed room = accepted Closed room SlotsFull
 
     go : (t : Bool) (f : Form) → Hands x slot (cond t (stays (answer.Refused AnnouncementForm)) (onForm f x room k a last) .answer)
     go true f = tt

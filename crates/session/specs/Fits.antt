@@ -18,7 +18,7 @@ use Rattle.transport.specs.declared.segment.Segment.{Segment}
 use Rattle.answer.specs.declared.Answer.{Answer}
 use Rattle.answer.specs.declared.Answer.the-variants as answer
 use Rattle.progress.specs.declared.Progress.{Progress}
-use Rattle.progress.specs.Forward.{grantOf, ctsDue, grantedBy, advancedBy}
+use Rattle.progress.specs.Forward.{grantOf, ctsDue, grantedBy}
 use Rattle.session.specs.declared.Session.{Session}
 use Rattle.session.specs.declared.State.{State}
 use Rattle.session.specs.declared.State.the-variants.{Closed, Open}
@@ -28,10 +28,10 @@ use Rattle.session.specs.declared.Step.{Step}
 use Rattle.session.specs.declared.announcement.Form.{Form}
 use Rattle.session.specs.declared.announcement.Form.the-variants as form
 use Rattle.session.specs.declared.segment.Judged.the-variants as judged
-use Rattle.session.specs.Announcements.{misdirected, formOf, firstGranted, sessionOf, firstCts}
+use Rattle.session.specs.Announcements.{misdirected, formOf, firstGranted}
 use Rattle.session.specs.Segments.{dueOf, judgedOf, nextCts}
 use Rattle.session.specs.Ends.{statusMatches}
-use Rattle.session.specs.Decisions.{stays, ended, ifOpen, rejection, opening, forKey, onForm, announcedTo, taken, onJudged, segmentOpen, segmentTo, messageOf, statusTo, abortTo}
+use Rattle.session.specs.Decisions.{stays, ended, ifOpen, rejection, acceptedIf, isRestart, forKey, onForm, announcedTo, onJudged, segmentOpen, segmentTo, messageOf, statusTo, abortTo}
 
 abbrev pub Small : ℕ → Type 0
 Small n = n < 4294967296
@@ -87,10 +87,13 @@ first-small a = go (isRts (a .kind))
     go true = omega arith
     go false = omega arith
 
+accepted-fits : (t : Bool) (n : Refusal) (k : Key) (a : Announcement) (last : ℕ) → Small (a .pgn) → Small last → StepFits (acceptedIf t n k a last)
+accepted-fits false n k a last p l = rejects k a n p
+accepted-fits true n k a last p l = record { change = (first-small a, l); answer = either (isRts (a .kind)) _ _ (omega arith, p) tt }
+
 for-key-fits : (x : State) (room : Bool) (k : Key) (a : Announcement) (last : ℕ) → Small (a .pgn) → Small last → StepFits (forKey x room k a last)
-for-key-fits (Open s) room k a last p l = rejects k a KeyOpen p
-for-key-fits Closed false k a last p l = rejects k a SlotsFull p
-for-key-fits Closed true k a last p l = record { change = (first-small a, l); answer = either (isRts (a .kind)) _ _ (omega arith, p) tt }
+for-key-fits (Open s) room k a last p l = accepted-fits (isRestart s a) KeyOpen k a last p l
+for-key-fits Closed room k a last p l = accepted-fits room SlotsFull k a last p l
 
 pub announce-fits : (x : State) (room : Bool) (k : Key) (a : Announcement) (last : ℕ) → Small (a .pgn) → Small last → StepFits (announcedTo x room k a last)
 unfolding announcedTo

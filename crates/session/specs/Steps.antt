@@ -5,7 +5,8 @@ use mathlib.Core.Path.{_≡_, refl}
 use mathlib.Core.Bool.{Bool, true, false, cond, not}
 use native.Mathlib.Omega.{arith}
 use lib.Dec.{eqb}
-use Rattle.frame.specs.declared.refusal.Refusal.the-variants.{AnnouncementForm, FormatIndicator, KeyNotOpen, StatusMismatch}
+use Rattle.frame.specs.declared.refusal.Refusal.{Refusal}
+use Rattle.frame.specs.declared.refusal.Refusal.the-variants.{AnnouncementForm, KeyOpen, SlotsFull, FormatIndicator, KeyNotOpen, StatusMismatch}
 use Rattle.transport.specs.declared.Key.{Key}
 use Rattle.transport.specs.declared.control.Announcement.{Announcement}
 use Rattle.transport.specs.declared.control.Status.{Status}
@@ -25,7 +26,7 @@ use Rattle.session.specs.declared.segment.Judged.the-variants as judged
 use Rattle.session.specs.Announcements.{misdirected, formOf}
 use Rattle.session.specs.Segments.{judgedOf}
 use Rattle.session.specs.Ends.{statusMatches}
-use Rattle.session.specs.Decisions.{refused, ended, messageOf, onForm, onJudged, ifOpen, segmentOpen, announcedTo, segmentTo, statusTo, abortTo}
+use Rattle.session.specs.Decisions.{refused, ended, messageOf, acceptedIf, isRestart, onForm, onJudged, ifOpen, segmentOpen, announcedTo, segmentTo, statusTo, abortTo}
 
 abbrev pub MeetsOpen : Change → State → Type 0
 MeetsOpen Stays x = Unit {0}
@@ -37,14 +38,17 @@ MeetsOpen Ends Closed = ⊥
 
 pub announce-meets : (x : State) (room : Bool) (k : Key) (a : Announcement) (last : ℕ) → MeetsOpen (announcedTo x room k a last .change) x
 unfolding announcedTo
-announce-meets x room k a last = go (misdirected (k .da) (a .kind)) (formOf a) x room
+announce-meets x room k a last = go (misdirected (k .da) (a .kind)) (formOf a) x
   where
-    go : (t : Bool) (f : Form) (y : State) (u : Bool) → MeetsOpen (cond t (refused AnnouncementForm) (onForm f y u k a last) .change) y
-    go true f y u = tt
-    go false (form.Bad n) y u = tt
-    go false form.Good (Open s) u = tt
-    go false form.Good Closed true = tt
-    go false form.Good Closed false = tt
+    accepted : (y : State) (t : Bool) (n : Refusal) → MeetsOpen (acceptedIf t n k a last .change) y
+    accepted y true n = tt
+    accepted y false n = tt
+
+    go : (t : Bool) (f : Form) (y : State) → MeetsOpen (cond t (refused AnnouncementForm) (onForm f y room k a last) .change) y
+    go true f y = tt
+    go false (form.Bad n) y = tt
+    go false form.Good (Open s) = accepted (Open s) (isRestart s a) KeyOpen
+    go false form.Good Closed = accepted Closed room SlotsFull
 
 pub status-meets : (x : State) (slot : ℕ) (st : Status) → MeetsOpen (statusTo x slot st .change) x
 unfolding statusTo

@@ -1,7 +1,7 @@
 // An announcement judged, and the session that it opens (01, "Announcement").
 ghost use mathlib.Core.Path.{_≡_};
 ghost use Rattle.session.specs.Announcements.{misdirected, badNumbers, formOf, firstGranted, sessionOf, firstCts};
-ghost use Rattle.session.specs.Decisions.{rejection, opening, forKey, announcedTo};
+ghost use Rattle.session.specs.Decisions.{rejection, opening, acceptedIf, isRestart, forKey, announcedTo};
 use super::Change;
 use super::Session;
 use super::State;
@@ -152,28 +152,39 @@ fn accept(k: Key, a: Announcement, last: u32) -> Step
     }
 }
 
-// An announcement of good form: 14, 15, else it is accepted.
+// It is accepted, or refused with n.
+fn accept_if(admitted: bool, n: Refusal, k: Key, a: Announcement, last: u32) -> Step
+    ensures { λ r. ⌜ r ≡ acceptedIf admitted n k a last ⌝ }
+{
+    if admitted {
+        return accept(k, a, last);
+    }
+    Step {
+        change: Change::Stays,
+        answer: reject(k, a, n),
+    }
+}
+
+// Whether an announcement is the RTS of an open session once more: it starts the session anew (02, E1).
+fn is_restart(s: Session, a: Announcement) -> bool
+    ensures { λ r. ⌜ r ≡ isRestart s a ⌝ }
+{
+    let kind = a.kind;
+    is_rts(kind) & (a.pgn == s.announced.pgn)
+}
+
+// An announcement of good form. For an open key a restart, else 14; for a closed one 15 where there is no slot.
 fn for_key(x: State, room: bool, k: Key, a: Announcement, last: u32) -> Step
     ensures { λ r. ⌜ r ≡ forKey x room k a last ⌝ }
 {
     match x {
-        State::Open(_) => Step {
-            change: Change::Stays,
-            answer: reject(k, a, Refusal::KeyOpen),
-        },
-        State::Closed => {
-            if room {
-                return accept(k, a, last);
-            }
-            Step {
-                change: Change::Stays,
-                answer: reject(k, a, Refusal::SlotsFull),
-            }
-        }
+        State::Open(s) => accept_if(is_restart(s, a), Refusal::KeyOpen, k, a, last),
+        State::Closed => accept_if(room, Refusal::SlotsFull, k, a, last),
     }
 }
 
-// An announcement for a key; room says whether there is a slot for it. 11 with nothing sent for a wrong destination; 11, 12, 13, 8; 14, 15.
+// An announcement for a key; room says whether there is a slot for it. 11 with nothing sent for a wrong destination; 11, 12, 13, 8; then by
+// the key's session: a restart, 14, 15.
 pub fn announce(x: State, room: bool, k: Key, a: Announcement, last: u32) -> Step
     ensures { λ r. ⌜ r ≡ announcedTo x room k a last ⌝ }
 {

@@ -3,6 +3,7 @@
 
 mod pair;
 mod random;
+mod repeats;
 mod samples;
 mod sender;
 mod traffic;
@@ -117,6 +118,8 @@ fn print_whole(whole: &Tally) {
     print_tally("all", whole);
     let codes: Vec<String> = (1..CODES.len()).map(|code| format!("{} {}", CODES[code], whole.codes[code])).collect();
     println!("answers: {}", codes.join(", "));
+    let forms: Vec<String> = repeats::NAMES.iter().zip(whole.repeats).map(|(name, n)| format!("{name} {n}")).collect();
+    println!("open keys: {}", forms.join(", "));
 }
 
 /// Every refusal and every answer has to have come up.

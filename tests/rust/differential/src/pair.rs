@@ -2,6 +2,7 @@
 //! everything it could have touched is compared after it: number, every lent buffer, and the bytes around each.
 
 use crate::random::Random;
+use crate::repeats::{self, Form, Watch};
 use rules::calls::{self, Code, ANSWERS_BYTES, ANSWER_BYTES, GROUPS_WORDS, RECORD_BYTES};
 use rules::receiver::{Receiver, STORE_BYTES};
 use std::fmt::{Debug, Display};
@@ -139,6 +140,8 @@ pub struct Tally {
     pub sent: u64,
     pub messages: u64,
     pub groups: u64,
+    /// By `Form`.
+    pub repeats: [u64; repeats::NAMES.len()],
 }
 
 impl Tally {
@@ -149,6 +152,7 @@ impl Tally {
         self.groups += other.groups;
         self.numbers.iter_mut().zip(other.numbers).for_each(|(a, b)| *a += b);
         self.codes.iter_mut().zip(other.codes).for_each(|(a, b)| *a += b);
+        self.repeats.iter_mut().zip(other.repeats).for_each(|(a, b)| *a += b);
     }
 }
 
@@ -158,6 +162,7 @@ pub struct Pair {
     /// The sizes that the next call lends.
     pub sizes: Sizes,
     pub tally: Tally,
+    watch: Watch,
     noise: u8,
 }
 
@@ -204,7 +209,8 @@ impl Pair {
     /// Nothing opened yet; the stores hold the same random bytes.
     pub fn new(random: &mut Random) -> Pair {
         let (rules, archive) = (Side::new(RULES), Side::new(ARCHIVE));
-        let mut pair = Pair { rules, archive, sizes: RIGHT, tally: Tally::default(), noise: 0 };
+        let (tally, watch) = (Tally::default(), Watch::default());
+        let mut pair = Pair { rules, archive, sizes: RIGHT, tally, watch, noise: 0 };
         pair.fill_store(random);
         pair
     }
@@ -215,12 +221,17 @@ impl Pair {
     }
 
     pub fn set_record(&mut self, bytes: &[u8; RECORD_BYTES]) {
+        self.watch = Watch::default();
         self.rules.record.lent_mut(RECORD_BYTES).copy_from_slice(bytes);
         self.archive.record.lent_mut(RECORD_BYTES).copy_from_slice(bytes);
     }
 
     pub fn record(&self) -> &[u8] {
         self.archive.record.lent(RECORD_BYTES)
+    }
+
+    pub fn store(&self) -> &[u8] {
+        self.archive.store.lent(STORE_BYTES)
     }
 
     /// The state that the record stands for.
@@ -269,6 +280,12 @@ impl Pair {
         self.tally.sent += u64::from(given.0[19]);
     }
 
+    fn count_forms(&mut self, forms: Vec<Form>) {
+        for form in forms {
+            self.tally.repeats[form as usize] += 1;
+        }
+    }
+
     pub fn least_length(&mut self, need: usize) -> Verdict<usize> {
         self.both(|| format!("least length for {need}"), |side| (side.calls.least_length)(need))
     }
@@ -302,6 +319,10 @@ impl Pair {
             return Ok(None);
         };
         self.count(&given);
+        if let Some(before) = calls::read_record(&record) {
+            let forms = self.watch.frame(&before, id, bytes, &given);
+            self.count_forms(forms);
+        }
         Ok(Some(given))
     }
 
@@ -343,6 +364,9 @@ impl Pair {
         for ending in given.iter().filter(|ending| ending.code() != 0) {
             self.tally.numbers[usize::from(ending.number())] += 1;
             self.count(ending);
+        }
+        if let (0, Some(before)) = (number, calls::read_record(&record)) {
+            self.count_forms(self.watch.reading(&before, reading, &given));
         }
         Ok((number, given))
     }

@@ -11,7 +11,7 @@ use std::path::{Path, PathBuf};
 /// Where traces stand, from the root of the repository.
 const FOLDERS: [&str; 2] = ["tests/samples", "traces"];
 /// How many samples have a list of sent frames.
-const WITH_SENT: usize = 24;
+const WITH_SENT: usize = 16;
 
 #[derive(Default)]
 pub struct Met {

@@ -124,12 +124,26 @@ impl Transfer {
         }
     }
 
+    /// The line and the PGN again from the start, with another message and MAX SGMTS or with the same.
+    pub fn anew(&self, random: &mut Random) -> Transfer {
+        if random.once_in(4) {
+            Transfer { made: 0, ..self.clone() }
+        } else {
+            Transfer { pgn: self.pgn, ..Transfer::new(random, self.line) }
+        }
+    }
+
     pub fn total(&self) -> u32 {
         self.message.len() as u32
     }
 
     pub fn segments(&self) -> u32 {
         self.message.chunks(60).count() as u32
+    }
+
+    /// All segments have been made, and the end has not.
+    pub fn is_whole(&self) -> bool {
+        self.made == self.segments() + 1
     }
 
     pub fn is_over(&self) -> bool {

@@ -1,5 +1,6 @@
-//! The scope document's rules (01) once more, in plain Rust, written from the paper and sharing nothing with the crates that are proved.
-//! The differential run holds the two against each other. Clear before fast: a call is a few searches over eight slots.
+//! The scope document's rules (01), as request E1 (02) has changed them, once more in plain Rust: written from the papers and sharing
+//! nothing with the crates that are proved. The differential run holds the two against each other. Clear before fast: a call is a few
+//! searches over eight slots.
 //!
 //! `receiver` is the receiver over a typed state, `calls` the same through the byte layouts of include/dwaebinam.h.
 

@@ -1,4 +1,4 @@
-//! 01 "Transfer frames" and "Life of a session": the receiver over a typed state.
+//! 01 "Transfer frames" and "Life of a session", with E1 of 02: the receiver over a typed state.
 
 use crate::frame::{self, is_pgn, is_taken, number24, Carried, Route, GLOBAL};
 use crate::{groups, Refusal};
@@ -70,7 +70,7 @@ pub enum Answer {
         key: Key,
         segment: u32,
     },
-    /// A CTS is due, after an RTS or after the segment that used a grant up.
+    /// A CTS is due, after an RTS, the first or a repeated one, or after the segment that used a grant up.
     Grant {
         key: Key,
         pgn: u32,
@@ -262,7 +262,7 @@ impl Receiver {
         }
     }
 
-    /// The slot for a new session, or why there is none.
+    /// The slot in which the announcement opens a session, or why there is none.
     fn place_for(&self, key: Key, a: &Announcement) -> Result<usize, Refusal> {
         let no_grant = a.kind == Kind::Rts && a.max_segments == 0;
         if a.total_bytes == 0 || a.segments != segments_of(a.total_bytes) || no_grant {
@@ -277,10 +277,12 @@ impl Receiver {
         if !is_pgn(a.pgn) {
             return Err(Refusal::WrongPgn);
         }
-        if self.find(key).is_some() {
-            return Err(Refusal::KeyAlreadyOpen);
+        match self.find(key) {
+            // 02 E1: an RTS that repeats the session's PGN gets the session's own slot, to begin anew there.
+            Some((slot, session)) if a.kind == Kind::Rts && a.pgn == session.pgn => Ok(slot),
+            Some(_) => Err(Refusal::KeyAlreadyOpen),
+            None => self.slots.iter().position(Option::is_none).ok_or(Refusal::EightSessionsOpen),
         }
-        self.slots.iter().position(Option::is_none).ok_or(Refusal::EightSessionsOpen)
     }
 
     fn open_session(&mut self, slot: usize, key: Key, a: &Announcement) -> Answer {

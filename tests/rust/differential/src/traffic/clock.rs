@@ -20,6 +20,9 @@ pub fn run(pair: &mut Pair, random: &mut Random, calls: u64) -> Verdict<()> {
         for _ in 0..120 {
             for _ in 0..random.below(16) {
                 let transfer = &mut transfers[random.below(8)];
+                if random.once_in(12) {
+                    *transfer = transfer.anew(random);
+                }
                 let frame = transfer.next(random);
                 let number = pair.frame(frame.id, &frame.bytes)?.number();
                 if transfer.is_over() || number != 0 {

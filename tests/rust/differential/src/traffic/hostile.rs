@@ -94,8 +94,12 @@ fn line_of(session: &Session) -> Line {
 
 fn announcement(random: &mut Random, state: &Receiver) -> Frame {
     let mut line = line(random, state.own);
-    if let (Some(session), true) = (open_session(random, state), random.once_in(8)) {
+    let mut pgn = if random.once_in(4) { any_pgn(random) } else { good_pgn(random) };
+    if let (Some(session), true) = (open_session(random, state), random.once_in(6)) {
         line = line_of(&session);
+        if !random.once_in(3) {
+            pgn = session.pgn;
+        }
     }
     let is_rts = (line.da != 255) != random.once_in(12);
     let mut total = good_total(random);
@@ -108,7 +112,6 @@ fn announcement(random: &mut Random, state: &Receiver) -> Frame {
     }
     let byte8 = if random.once_in(8) { 0 } else { good_max(random) };
     let byte9 = if random.once_in(8) { random.pick(&[1, 2, 3, 4, 128, 255]) } else { 0 };
-    let pgn = if random.once_in(4) { any_pgn(random) } else { good_pgn(random) };
     Control { control: if is_rts { 0 } else { 4 }, total, segments, byte8, byte9, pgn }.frame(random, line)
 }
 

@@ -5,6 +5,7 @@ mod hostile;
 mod multi_pg;
 mod network;
 mod records;
+mod repeated;
 mod small;
 
 use crate::pair::{Pair, Verdict};
@@ -18,7 +19,7 @@ pub struct Kind {
     pub run: fn(&mut Pair, &mut Random, u64) -> Verdict<()>,
 }
 
-pub const KINDS: [Kind; 14] = [
+pub const KINDS: [Kind; 15] = [
     Kind { name: "valid transfers", calls: 225_000, must_refuse: &[], run: network::valid },
     Kind { name: "interleaved senders", calls: 300_000, must_refuse: &[15, 22], run: network::interleaved },
     Kind {
@@ -43,4 +44,10 @@ pub const KINDS: [Kind; 14] = [
     Kind { name: "packing", calls: 225_000, must_refuse: &[8, 24], run: multi_pg::packing },
     Kind { name: "least lengths and openings", calls: 75_000, must_refuse: &[23], run: small::lengths_and_openings },
     Kind { name: "messages of any answer", calls: 90_000, must_refuse: &[], run: small::messages },
+    Kind {
+        name: "repeated announcements",
+        calls: 225_000,
+        must_refuse: &[8, 11, 12, 13, 14, 15, 21, 22],
+        run: repeated::run,
+    },
 ];

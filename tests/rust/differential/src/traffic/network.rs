@@ -37,7 +37,7 @@ pub fn valid(pair: &mut Pair, random: &mut Random, calls: u64) -> Verdict<()> {
 
 /// Lines 0 and 1, 2 and 3 and so on have one sender and session: one to the own address, the other to all. Three senders have the
 /// session `first`, and the same three have others.
-fn line_of(own: u8, first: usize, i: usize) -> Line {
+pub fn line_of(own: u8, first: usize, i: usize) -> Line {
     let pair = i / 2;
     // Adding 1 to 253 to an address, modulo 254, never gives it again.
     let sa = (usize::from(own) + 1 + pair % 3 * 84) % 254;
@@ -95,6 +95,9 @@ impl Network {
             let frame = if random.once_in(50) {
                 transfer.abort(random).frame(random, transfer.line)
             } else {
+                if random.once_in(25) {
+                    *transfer = transfer.anew(random);
+                }
                 transfer.next(random)
             };
             let is_hurt = self.damage > 0 && random.once_in(self.damage);

@@ -1,0 +1,128 @@
+//! What came of announcements for keys that are open (02 E1), told by the record before a call, the call and its answer.
+
+use crate::pair::Given;
+use crate::sender::CONTROL;
+use rules::frame::number24;
+use rules::receiver::{Key, Receiver, Session, SLOTS};
+
+/// `NAMES` says them in words, in the same order.
+#[derive(Clone, Copy)]
+pub enum Form {
+    NothingTaken,
+    MidTransfer,
+    AllIn,
+    EightOpen,
+    Shorter,
+    Longer,
+    OtherMax,
+    NewMark,
+    Spared,
+    EndedAtOnce,
+    HandedOver,
+    OtherPgn,
+    Broadcast,
+    WrongPgn,
+    WrongNumbers,
+    TooLarge,
+    Assurance,
+}
+
+pub const NAMES: [&str; 17] = [
+    "restart with nothing taken",
+    "restart in mid-transfer",
+    "restart with all segments in",
+    "restart with eight open",
+    "restart for fewer bytes",
+    "restart for more bytes",
+    "restart with another MAX SGMTS",
+    "restart that moved the mark",
+    "reading outlived by the new mark only",
+    "21 at once after a restart with all in",
+    "hand-over after a restart",
+    "14 by another PGN",
+    "14 by a BAM",
+    "repeated RTS refused by 8",
+    "repeated RTS refused by 11",
+    "repeated RTS refused by 12",
+    "repeated RTS refused by 13",
+];
+
+/// What never came up, of these counts by `Form`.
+pub fn missing(counts: &[u64]) -> Vec<&'static str> {
+    NAMES.into_iter().zip(counts).filter(|(_, &count)| count == 0).map(|(name, _)| name).collect()
+}
+
+/// By slot, of a session that was restarted: what it was before. A slot's entry means nothing once its session has ended.
+#[derive(Default)]
+pub struct Watch([Option<Session>; SLOTS]);
+
+impl Watch {
+    pub fn frame(&mut self, before: &Receiver, id: u32, bytes: &[u8], given: &Given) -> Vec<Form> {
+        if bytes.len() != 12 || id >> 16 & 0xFF != u32::from(CONTROL) {
+            return vec![];
+        }
+        let key = Key { sa: id as u8, da: (id >> 8) as u8, session: bytes[0] >> 4 };
+        let is_key = |slot: &Option<Session>| slot.is_some_and(|session| session.key == key);
+        let Some(slot) = before.slots.iter().position(is_key) else {
+            // What opens here takes the lowest free slot.
+            if let Some(free) = before.slots.iter().position(Option::is_none) {
+                self.0[free] = None;
+            }
+            return vec![];
+        };
+        match (bytes[0] & 0xF, given.number()) {
+            (0, 0) => self.restart(before, slot, bytes),
+            (0, 8) => vec![Form::WrongPgn],
+            (0, 11) => vec![Form::WrongNumbers],
+            (0, 12) => vec![Form::TooLarge],
+            (0, 13) => vec![Form::Assurance],
+            (0, 14) => vec![Form::OtherPgn],
+            (4, 14) => vec![Form::Broadcast],
+            (2, number) => self.end(before, slot, number),
+            _ => vec![],
+        }
+    }
+
+    fn restart(&mut self, before: &Receiver, slot: usize, bytes: &[u8]) -> Vec<Form> {
+        let Some(session) = before.slots[slot] else {
+            return vec![];
+        };
+        self.0[slot] = Some(session);
+        let total = number24(&bytes[1..4]);
+        let is_whole = session.next > session.segments;
+        let forms = [
+            (Form::NothingTaken, session.next == 1),
+            (Form::MidTransfer, session.next > 1 && !is_whole),
+            (Form::AllIn, is_whole),
+            (Form::EightOpen, before.slots.iter().all(Option::is_some)),
+            (Form::Shorter, total < session.total_bytes),
+            (Form::Longer, total > session.total_bytes),
+            (Form::OtherMax, bytes[7] != session.max_segments),
+            (Form::NewMark, session.mark != before.last_reading),
+        ];
+        forms.into_iter().filter(|(_, holds)| *holds).map(|(form, _)| form).collect()
+    }
+
+    fn end(&self, before: &Receiver, slot: usize, number: u8) -> Vec<Form> {
+        let (Some(session), Some(former)) = (before.slots[slot], self.0[slot]) else {
+            return vec![];
+        };
+        match number {
+            0 => vec![Form::HandedOver],
+            21 if session.next == 1 && former.next > former.segments => vec![Form::EndedAtOnce],
+            _ => vec![],
+        }
+    }
+
+    /// Sessions with nothing taken since their restart that a reading left open, though the mark before the restart had run out.
+    pub fn reading(&self, before: &Receiver, reading: u32, given: &[Given]) -> Vec<Form> {
+        let is_spared = |slot: usize| {
+            let (Some(session), Some(former)) = (before.slots[slot], self.0[slot]) else {
+                return false;
+            };
+            let has_run_out = reading.wrapping_sub(former.mark) >= before.limit;
+            session.next == 1 && has_run_out && given[slot].code() == 0
+        };
+        (0..SLOTS).filter(|&slot| is_spared(slot)).map(|_| Form::Spared).collect()
+    }
+}

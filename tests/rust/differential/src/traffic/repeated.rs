@@ -1,0 +1,176 @@
+//! Announcements for keys that are open (02 E1). Each originator knows what every frame of its own has to bring, and when its session
+//! has to end by silence. There may be more of them than slots. Each form of such an announcement has to come up here.
+
+use crate::pair::{expect, Given, Pair, Verdict};
+use crate::random::Random;
+use crate::repeats;
+use crate::sender::{Control, Frame, Line, Transfer};
+use crate::traffic::network::line_of;
+use rules::calls::Code;
+use rules::receiver::Key;
+
+struct Originator {
+    transfer: Transfer,
+    is_open: bool,
+    /// The last reading before its latest frame that was taken.
+    mark: u32,
+}
+
+pub fn run(pair: &mut Pair, random: &mut Random, calls: u64) -> Verdict<()> {
+    while pair.tally.calls < calls {
+        let own = random.below(254) as u8;
+        let limit = random.between(100, 4_000);
+        let mut clock = random.u32();
+        pair.open(own, limit as u32, clock)?;
+        let first = random.below(16);
+        let lines = random.pick(&[2, 6, 8, 9, 10]);
+        let mut originators: Vec<Originator> =
+            (0..lines).map(|i| Originator::new(random, line_of(own, first, i))).collect();
+        for _ in 0..400 {
+            let is_full = originators.iter().filter(|originator| originator.is_open).count() == 8;
+            originators[random.below(lines)].turn(pair, random, clock, is_full)?;
+            if random.once_in(5) {
+                clock = clock.wrapping_add(random.below(limit / 3) as u32);
+                reading(pair, &mut originators, clock, limit as u32)?;
+            }
+        }
+    }
+    let missing = repeats::missing(&pair.tally.repeats);
+    expect(missing.is_empty(), || format!("never came up: {}", missing.join(", ")))
+}
+
+fn reading(pair: &mut Pair, originators: &mut [Originator], clock: u32, limit: u32) -> Verdict<()> {
+    let (_, endings) = pair.reading(clock)?;
+    for originator in originators.iter_mut().filter(|originator| originator.is_open) {
+        let Line { sa, da, session } = originator.transfer.line;
+        let has_ended = endings.iter().any(|given| given.number() == 22 && given.0[2..5] == [sa, da, session]);
+        let is_due = clock.wrapping_sub(originator.mark) >= limit;
+        let told = || format!("reading {clock}: {sa} {da} {session} ended: {has_ended}, by its mark: {is_due}");
+        expect(has_ended == is_due, told)?;
+        originator.is_open = !has_ended;
+    }
+    Ok(())
+}
+
+impl Originator {
+    fn new(random: &mut Random, line: Line) -> Originator {
+        Originator { transfer: Transfer::new(random, line), is_open: false, mark: 0 }
+    }
+
+    /// Mostly the transfer goes on; where all segments are in, an announcement is as likely as the end.
+    fn turn(&mut self, pair: &mut Pair, random: &mut Random, clock: u32, is_full: bool) -> Verdict<()> {
+        if !self.is_open {
+            return self.announce(pair, random, clock, is_full);
+        }
+        let turns = if self.transfer.is_whole() { 8 } else { 24 };
+        match random.below(turns) {
+            0 | 1 if self.transfer.is_rts => self.restart(pair, random, clock),
+            0..=2 => self.key_is_open(pair, random),
+            3 => self.bad_form(pair, random),
+            4 | 5 if self.transfer.made == 1 => self.end_at_once(pair, random),
+            _ => self.go_on(pair, random, clock),
+        }
+    }
+
+    fn announce(&mut self, pair: &mut Pair, random: &mut Random, clock: u32, is_full: bool) -> Verdict<()> {
+        self.transfer = Transfer::new(random, self.transfer.line);
+        let Frame { id, bytes } = self.transfer.next(random);
+        let number = pair.frame(id, &bytes)?.number();
+        expect(number == if is_full { 15 } else { 0 }, || format!("a first announcement was answered by {number}"))?;
+        self.is_open = !is_full;
+        self.mark = clock;
+        Ok(())
+    }
+
+    fn restart(&mut self, pair: &mut Pair, random: &mut Random, clock: u32) -> Verdict<()> {
+        let (slot, store) = (self.slot(pair), pair.store().to_vec());
+        self.transfer = self.transfer.anew(random);
+        let Frame { id, bytes } = self.transfer.next(random);
+        let given = pair.frame(id, &bytes)?;
+        expect(self.is_cts(&given), || format!("a repeated RTS was answered by {:02X?}", given.0))?;
+        expect(self.slot(pair) == slot, || "a repeated RTS has moved its session".into())?;
+        expect(pair.store() == store, || "a repeated RTS has changed the store".into())?;
+        self.mark = clock;
+        Ok(())
+    }
+
+    fn slot(&self, pair: &Pair) -> Option<usize> {
+        let Line { sa, da, session } = self.transfer.line;
+        let key = Key { sa, da, session };
+        pair.state()?.slots.iter().position(|slot| slot.is_some_and(|session| session.key == key))
+    }
+
+    /// The CTS for what comes after the frames made.
+    fn is_cts(&self, given: &Given) -> bool {
+        let Transfer { made, max, .. } = self.transfer;
+        let count = (self.transfer.segments() + 1 - made).min(16).min(max.into());
+        given.is(Code::Grant) && given.word(15) == made && u32::from(given.0[6]) == count
+    }
+
+    /// A BAM, of the same PGN or another, or an RTS of another.
+    fn key_is_open(&mut self, pair: &mut Pair, random: &mut Random) -> Verdict<()> {
+        let mut again = self.transfer.anew(random).announcement();
+        if self.transfer.is_rts || random.once_in(3) {
+            again.pgn = other_pgn(random, again.pgn);
+        }
+        self.refused(pair, random, &again, 14)
+    }
+
+    fn bad_form(&mut self, pair: &mut Pair, random: &mut Random) -> Verdict<()> {
+        let mut again = self.transfer.anew(random).announcement();
+        let number = random.pick(&[8, 11, 12, 13]);
+        match number {
+            8 => again.pgn |= 1 << random.between(18, 23),
+            11 if self.transfer.is_rts && random.once_in(2) => again.byte8 = 0,
+            11 => again.segments = random.pick(&[0, again.segments - 1, again.segments + 1, again.segments + 0x100]),
+            12 => {
+                again.total = random.pick(&[4_097, 4_098, 65_536, 0xFF_FFFF]);
+                again.segments = again.total.div_ceil(60);
+            }
+            _ => again.byte9 = random.pick(&[1, 2, 128, 255]),
+        }
+        self.refused(pair, random, &again, number)
+    }
+
+    /// The announcement is refused with this number, and record and store stay.
+    fn refused(&self, pair: &mut Pair, random: &mut Random, again: &Control, number: u8) -> Verdict<()> {
+        let Frame { id, bytes } = again.frame(random, self.transfer.line);
+        let before = (pair.record().to_vec(), pair.store().to_vec());
+        let given = pair.frame(id, &bytes)?;
+        let told = || format!("an announcement due {number} for an open key was answered by {:02X?}", given.0);
+        expect(given.number() == number && given.sent().is_some() == self.transfer.is_rts, told)?;
+        let is_same = pair.record() == before.0 && pair.store() == before.1;
+        expect(is_same, || format!("refused by {number}, but the record or the store has changed"))
+    }
+
+    /// EOMS with nothing taken since the announcement.
+    fn end_at_once(&mut self, pair: &mut Pair, random: &mut Random) -> Verdict<()> {
+        let Frame { id, bytes } = self.transfer.status().frame(random, self.transfer.line);
+        let number = pair.frame(id, &bytes)?.number();
+        self.is_open = false;
+        expect(number == 21, || format!("an end with nothing taken was answered by {number}"))
+    }
+
+    fn go_on(&mut self, pair: &mut Pair, random: &mut Random, clock: u32) -> Verdict<()> {
+        let Frame { id, bytes } = self.transfer.next(random);
+        let given = pair.frame(id, &bytes)?;
+        let is_good = given.number() == 0 && (!given.is(Code::Grant) || self.is_cts(&given));
+        expect(is_good, || format!("a frame of a transfer was answered by {:02X?}", given.0))?;
+        self.mark = clock;
+        if self.transfer.is_over() {
+            let message = &self.transfer.message;
+            expect(given.is(Code::HandedOver), || "a transfer was not handed over".into())?;
+            let is_same = given.word(11) == self.transfer.total() && pair.out(message.len()) == message;
+            expect(is_same, || "a message is not what was sent since the latest announcement".into())?;
+            self.is_open = false;
+        }
+        Ok(())
+    }
+}
+
+/// One bit away and in good form: PF stays on its side of 240, and below 240 the low byte stays 0.
+fn other_pgn(random: &mut Random, pgn: u32) -> u32 {
+    let is_pdu2 = pgn >> 8 & 0xFF >= 240;
+    let bits: &[u32] = if is_pdu2 { &[0, 1, 7, 8, 11, 16, 17] } else { &[8, 9, 11, 16, 17] };
+    pgn ^ 1 << random.pick(bits)
+}
