@@ -10,6 +10,7 @@ use lib.ListN.{length}
 use Rattle.transport.specs.declared.control.Announcement.{Announcement}
 use Rattle.isolation.specs.OwnFrames.{Body, announce, segment, status, abort}
 use Rattle.isolation.specs.Rules.{Values, Open, Out, badNumbers, opens, announced, nextOf, isTaken, due, adds, segmentOpen, asAnnounced, statusOpen, abortOpen, ifOpen, rule, isSilent, judgedAt}
+use Rattle.isolation.proofs.Tests.{either-way}
 use Rattle.isolation.proofs.Announced.{Comes, astray, refused, accepted, comes}
 
 abbrev pub IfOpen : (Open → Type 0) → Option Open → Type 0
@@ -23,15 +24,14 @@ pub record Passes (ρ : Open) (n : ℕ) (d : List ℕ) : Type 0 where
   pub enough : ltb (length d) (due (ρ .told .total .0) n) ≡ false
 
 module _ (Q : Open → Type 0) where
-  either : (t : Bool) (q q′ : Out) → (t ≡ true → IfOpen Q (q .0)) → (t ≡ false → IfOpen Q (q′ .0)) → IfOpen Q (cond t q q′ .0)
-  either true q q′ f g = f refl
-  either false q q′ f g = g refl
+  abbrev Keeps : Out → Type 0
+  Keeps q = IfOpen Q (q .0)
 
   announce-keeps : (v : Values) (k last : ℕ) (eight : Bool) (x : Option Open) (a : Announcement)
       → (badNumbers a ≡ false → IfOpen Q (opens k last a .0)) → IfOpen Q x → IfOpen Q (announced (v .own) k last eight x a .0)
   announce-keeps v k last eight x a new h = go (comes k last a (v .own) eight x)
     where
-      go : {q : Out} → Comes k last x a q → IfOpen Q (q .0)
+      go : {q : Out} → Comes k last x a q → Keeps q
       go astray = h
       go (refused c) = h
       go (accepted good) = new good
@@ -39,9 +39,9 @@ module _ (Q : Open → Type 0) where
   segment-keeps : (k last : ℕ) (ρ : Open) (n : ℕ) (d : List ℕ) → (Passes ρ n d → IfOpen Q (adds k last ρ n d .0)) → Q ρ → IfOpen Q (segmentOpen k last ρ n d .0)
   unfolding segmentOpen
   segment-keeps k last ρ n d added h =
-      either (eqb n 0 || isTaken n (ρ .pieces)) _ _ (λ _. h) (λ a.
-      either (ltb (nextOf ρ) n || ltb (ρ .told .segments .0) n) _ _ (λ _. tt) (λ b.
-      either (ltb (length d) (due (ρ .told .total .0) n)) _ _ (λ _. h) (λ c.
+      either-way Keeps (eqb n 0 || isTaken n (ρ .pieces)) (λ _. h) (λ a.
+      either-way Keeps (ltb (nextOf ρ) n || ltb (ρ .told .segments .0) n) (λ _. tt) (λ b.
+      either-way Keeps (ltb (length d) (due (ρ .told .total .0) n)) (λ _. h) (λ c.
       added (record { new = a; next = b; enough = c }))))
 
   pub rule-keeps : (v : Values) (k last : ℕ) (eight : Bool) (x : Option Open) (b : Body)
@@ -50,15 +50,15 @@ module _ (Q : Open → Type 0) where
       → IfOpen Q x → IfOpen Q (rule v k last eight x b .0)
   unfolding rule statusOpen abortOpen
   rule-keeps v k last eight x (announce a) new added h = announce-keeps v k last eight x a (new a) h
-  rule-keeps v k last eight x (segment format n d) new added h = either (not (eqb format 0)) _ _ (λ _. h) (λ _. go x h)
+  rule-keeps v k last eight x (segment format n d) new added h = either-way Keeps (not (eqb format 0)) (λ _. h) (λ _. go x h)
     where
       go : (x : Option Open) → IfOpen Q x → IfOpen Q (ifOpen x (λ r. segmentOpen k last r n d) .0)
       go none h = tt
       go (some ρ) h = segment-keeps k last ρ n d (added format n d refl ρ h) h
   rule-keeps v k last eight none (status s) new added h = tt
-  rule-keeps v k last eight (some ρ) (status s) new added h = either (asAnnounced ρ s) _ _ (λ _. tt) (λ _. tt)
+  rule-keeps v k last eight (some ρ) (status s) new added h = either-way Keeps (asAnnounced ρ s) (λ _. tt) (λ _. tt)
   rule-keeps v k last eight none (abort pgn) new added h = tt
-  rule-keeps v k last eight (some ρ) (abort pgn) new added h = either (eqb pgn (ρ .told .pgn)) _ _ (λ _. tt) (λ _. h)
+  rule-keeps v k last eight (some ρ) (abort pgn) new added h = either-way Keeps (eqb pgn (ρ .told .pgn)) (λ _. tt) (λ _. h)
 
   pub reading-keeps : (v : Values) (t : ℕ) (x : Option Open) → IfOpen Q x → IfOpen Q (judgedAt v t x)
   unfolding judgedAt

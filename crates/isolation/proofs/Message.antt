@@ -20,7 +20,7 @@ use Rattle.isolation.specs.OwnFrames.{Body, announce, segment, status, a
 use Rattle.isolation.specs.Replies.{Reply, Says, nothing, reject, ending, cts, handOver}
 use Rattle.isolation.specs.Rules.{Values, Open, Out, State, Piece, nextOf, closes, opens, announced, due, sixties, spent, adds, asAnnounced, segmentOpen, statusOpen, abortOpen, rule, ifOpen, joined, pieceAt, isTaken, isOpen, Input, mine, now, nextState, fresh}
 use Rattle.isolation.specs.World.{after}
-use Rattle.isolation.proofs.Tests.{or-false, clash, or-left, or-right, and-left, or-1, or-2}
+use Rattle.isolation.proofs.Tests.{or-false, clash, either-way, or-left, or-right, and-left, or-1, or-2}
 use Rattle.isolation.proofs.Same.{sixties-same, due-same}
 use Rattle.isolation.proofs.Announced.{Comes, astray, refused, accepted, comes}
 use Rattle.isolation.proofs.Kept.{IfOpen, Passes, rule-keeps, reading-keeps}
@@ -140,10 +140,9 @@ pub record Hands (k : ℕ) (x : Option Open) (q : Out) : Type 0 where
   pub reply : q .1 ≡ handOver k (session .told) (joined (session .told .segments .0) (session .pieces))
   pub size : length (joined (session .told .segments .0) (session .pieces)) ≡ session .told .total .0
 
-hands-cond : (k : ℕ) (x : Option Open) (t : Bool) (q q′ : Out) → (t ≡ true → isHanded (q .1 .says) ≡ true → Hands k x q) → (t ≡ false → isHanded (q′ .1 .says) ≡ true → Hands k x q′)
-    → isHanded (cond t q q′ .1 .says) ≡ true → Hands k x (cond t q q′)
-hands-cond k x true q q′ f g e = f refl e
-hands-cond k x false q q′ f g e = g refl e
+-- if it hands over
+abbrev HandsIf : ℕ → Option Open → Out → Type 0
+HandsIf k x q = isHanded (q .1 .says) ≡ true → Hands k x q
 
 not-handed : (k : ℕ) (x : Option Open) (q : Out) → isHanded (q .1 .says) ≡ false → isHanded (q .1 .says) ≡ true → Hands k x q
 not-handed k x q e f = absurd (clash (isHanded (q .1 .says)) f e)
@@ -172,9 +171,9 @@ announce-hands v k last eight x a = go (comes k last a (v .own) eight x)
 segment-hands : (k last : ℕ) (ρ : Open) (n : ℕ) (d : List ℕ) → isHanded (segmentOpen k last ρ n d .1 .says) ≡ true → Hands k (some ρ) (segmentOpen k last ρ n d)
 unfolding segmentOpen adds cts ending
 segment-hands k last ρ n d =
-    hands-cond k (some ρ) (eqb n 0 || isTaken n (ρ .pieces)) _ _ (λ _. not-handed k (some ρ) _ refl) (λ _.
-    hands-cond k (some ρ) (ltb (nextOf ρ) n || ltb (ρ .told .segments .0) n) _ _ (λ _. not-handed k (some ρ) _ refl) (λ _.
-    hands-cond k (some ρ) (ltb (length d) (due (ρ .told .total .0) n)) _ _ (λ _. not-handed k (some ρ) _ refl) (λ _.
+    either-way (HandsIf k (some ρ)) (eqb n 0 || isTaken n (ρ .pieces)) (λ _. not-handed k (some ρ) _ refl) (λ _.
+    either-way (HandsIf k (some ρ)) (ltb (nextOf ρ) n || ltb (ρ .told .segments .0) n) (λ _. not-handed k (some ρ) _ refl) (λ _.
+    either-way (HandsIf k (some ρ)) (ltb (length d) (due (ρ .told .total .0) n)) (λ _. not-handed k (some ρ) _ refl) (λ _.
     not-handed k (some ρ) _ (quiet-reply (spent ρ n) _ _ refl refl))))
 
 all-joined : (ρ : Open) → Whole ρ → length (ρ .pieces) ≡ ρ .told .segments .0 → length (joined (ρ .told .segments .0) (ρ .pieces)) ≡ ρ .told .total .0
@@ -189,10 +188,10 @@ all-joined ρ h e =
 status-hands : (k : ℕ) (ρ : Open) (s : Status) → Whole ρ → isHanded (statusOpen k ρ s .1 .says) ≡ true → Hands k (some ρ) (statusOpen k ρ s)
 unfolding statusOpen asAnnounced ending
 status-hands k ρ s h =
-    hands-cond k (some ρ)
+    either-way (HandsIf k (some ρ))
     (eqb (length (ρ .pieces)) (ρ .told .segments .0) &&
     (eqb (s .total .0) (ρ .told .total .0) &&
-    (eqb (s .segments .0) (ρ .told .segments .0) && (eqb (s .assurance) (ρ .told .assurance) && eqb (s .pgn) (ρ .told .pgn))))) _ _
+    (eqb (s .segments .0) (ρ .told .segments .0) && (eqb (s .assurance) (ρ .told .assurance) && eqb (s .pgn) (ρ .told .pgn)))))
     (λ t _.
     let e : length (ρ .pieces) ≡ ρ .told .segments .0 =
     eqb-true (length (ρ .pieces)) (ρ .told .segments .0) (and-left (eqb (length (ρ .pieces)) (ρ .told .segments .0)) _ t) in
@@ -204,7 +203,7 @@ status-hands k ρ s h =
 pub hands-over : (v : Values) (k last : ℕ) (eight : Bool) (x : Option Open) (b : Body) → WholeIf x → isHanded (rule v k last eight x b .1 .says) ≡ true → Hands k x (rule v k last eight x b)
 unfolding rule abortOpen
 hands-over v k last eight x (announce a) h = announce-hands v k last eight x a
-hands-over v k last eight x (segment format n d) h = hands-cond k x (not (eqb format 0)) _ _ (λ _. not-handed k x _ refl) (λ _. go x h)
+hands-over v k last eight x (segment format n d) h = either-way (HandsIf k x) (not (eqb format 0)) (λ _. not-handed k x _ refl) (λ _. go x h)
   where
     go : (x : Option Open) → WholeIf x → isHanded (ifOpen x (λ r. segmentOpen k last r n d) .1 .says) ≡ true → Hands k x (ifOpen x (λ r. segmentOpen k last r n d))
     go none h = not-handed k none _ refl
@@ -212,7 +211,7 @@ hands-over v k last eight x (segment format n d) h = hands-cond k x (not (eqb fo
 hands-over v k last eight none (status s) h = not-handed k none _ refl
 hands-over v k last eight (some ρ) (status s) h = status-hands k ρ s h
 hands-over v k last eight none (abort pgn) h = not-handed k none _ refl
-hands-over v k last eight (some ρ) (abort pgn) h = hands-cond k (some ρ) (eqb pgn (ρ .told .pgn)) _ _ (λ _. not-handed k (some ρ) _ refl) (λ _. not-handed k (some ρ) _ refl)
+hands-over v k last eight (some ρ) (abort pgn) h = either-way (HandsIf k (some ρ)) (eqb pgn (ρ .told .pgn)) (λ _. not-handed k (some ρ) _ refl) (λ _. not-handed k (some ρ) _ refl)
 
 shut-not-open : (ρ : Open) → none ≡ some ρ → ⊥
 unfolding isOpen

@@ -80,6 +80,11 @@ pub passed : {A : Type 0} (t : Bool) (x y z : A) → (x ≡ z → ⊥) → cond 
 passed true x y z n e = absurd (n e)
 passed false x y z n e = (refl, e)
 
+-- what holds of both that a test chooses between holds of what it chooses
+pub either-way : {A : Type 0} (P : A → Type 0) (t : Bool) {a b : A} → (t ≡ true → P a) → (t ≡ false → P b) → P (cond t a b)
+either-way P true f g = f refl
+either-way P false f g = g refl
+
 -- a function of the arms, or of the whole
 pub over-cond : {A B : Type 0} (f : A → B) (t : Bool) (a b : A) → cond t (f a) (f b) ≡ f (cond t a b)
 over-cond f true a b = refl
