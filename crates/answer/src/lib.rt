@@ -13,7 +13,7 @@ use frame::refusal;
 use frame::refusal::Refusal;
 use transport::Key;
 use transport::Kind;
-use transport::response::Cts;
+use transport::cts::Cts;
 
 // A message handed over: its first total bytes are in the slot.
 pub struct Message {

@@ -8,9 +8,9 @@ use super::Message;
 use frame::refusal::Refusal;
 use transport::Key;
 use transport::Kind;
+use transport::abort::Abort;
+use transport::eoma::Eoma;
 use transport::reason::wire_reason;
-use transport::response::Abort;
-use transport::response::Eoma;
 use transport::response::Response;
 
 // The control frame that is due after a call, if one is.

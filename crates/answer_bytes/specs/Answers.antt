@@ -4,7 +4,7 @@ use mathlib.Core.List.{List, [], _∷_, _++_}
 use lib.ListN.{replicate}
 use Rattle.frame.specs.Refusals.{numberOf}
 use Rattle.transport.specs.declared.Key.{Key}
-use Rattle.transport.specs.declared.response.Cts.{Cts}
+use Rattle.transport.specs.declared.cts.Cts.{Cts}
 use Rattle.transport.specs.declared.response.Response.{Response}
 use Rattle.transport.specs.Responses.{responseBytes, responseId}
 use Rattle.answer.specs.declared.Message.{Message}

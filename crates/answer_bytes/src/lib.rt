@@ -32,8 +32,8 @@ use places::TOTAL_AT;
 use record_bytes::slot::kind_byte;
 use record_bytes::word::put_word;
 use transport::Key;
+use transport::cts::Cts;
 use transport::response;
-use transport::response::Cts;
 use transport::response::Response;
 
 // The fields of an answer; those that it does not have are 0.

@@ -22,12 +22,16 @@ use Rattle.frame.specs.Pgn.{lowByteOk}
 use Rattle.multi_pg.specs.Groups.{GroupsRead, good, bad, groupsRead}
 use Rattle.transport.specs.declared.Key.{Key}
 use Rattle.transport.specs.declared.Kind.the-variants.{Rts, Bam}
-use Rattle.transport.specs.declared.control.Announcement.{Announcement}
+use Rattle.transport.specs.declared.announcement.Announcement.{Announcement}
 use Rattle.transport.specs.declared.control.Control.the-variants as control
 use Rattle.transport.specs.declared.segment.Segment.{Segment}
 use Rattle.transport.specs.declared.segment.DataFrame.{DataFrame}
 use Rattle.transport.specs.declared.segment.DataFrame.the-variants as dataframe
-use Rattle.transport.specs.Control.{controlAt, keyOf, announcementAt, statusAt, roleAt, abortPgnAt, controlOf}
+use Rattle.transport.specs.Control.{controlOf}
+use Rattle.transport.specs.Heads.{controlAt, keyOf}
+use Rattle.transport.specs.Announcements.{announcementAt}
+use Rattle.transport.specs.Eoms.{statusAt}
+use Rattle.transport.specs.Aborts.{roleAt, abortPgnAt}
 use Rattle.transport.specs.Segments.{dataFrameOf}
 use Rattle.answer.specs.declared.Answer.{Answer}
 use Rattle.answer.specs.declared.Acceptance.the-variants as acceptance

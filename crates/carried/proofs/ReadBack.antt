@@ -9,7 +9,7 @@ use lib.ListN.{length, getD}
 use lib.Seq.{take-at, drop-at}
 use Rattle.frame.specs.Refusals.{numberOf}
 use Rattle.frame.specs.declared.refusal.Refusal.{Refusal}
-use Rattle.frame.specs.declared.refusal.Refusal.the-variants.{FrameLength, IdentifierRange, NotTaken, HeaderCut, DataCut, ServiceType, TrailerFormat, PgnForm, TransferLength, NotReceivers, AnnouncementForm, TooLong, Assurance, KeyOpen, SlotsFull, KeyNotOpen, FormatIndicator, AlreadyTaken, OutOfSequence, SegmentCut, StatusMismatch, Silence, OutOfBounds, PackRequest}
+use Rattle.frame.specs.Numbers.{refusalAt, refusal-back}
 use Rattle.transport.specs.declared.Kind.{Kind}
 use Rattle.transport.specs.declared.Kind.the-variants.{Rts, Bam}
 use Rattle.answer.specs.declared.Ending.{Ending}
@@ -31,34 +31,8 @@ use Rattle.isolation.specs.Replies.{Wire, Says, Reply, ended}
 use Rattle.isolation.specs.Observe.{isKey, saysOf, replyOf, endReply, endingOf, endingsOf}
 use Rattle.answer_bytes.specs.Ends.{endBytes, endsBytes}
 use Rattle.answer_bytes.specs.EndLaws.{length-end}
-use Rattle.carried.specs.ReadBack.{refusalAt, answerAt, unrouted, wireAt}
+use Rattle.carried.specs.ReadBack.{answerAt, unrouted, wireAt}
 use Rattle.carried.specs.Shown.{replyAt, endingAt, endingsAt}
-
-refusal-back : (n : Refusal) → refusalAt (numberOf n) ≡ n
-refusal-back FrameLength = refl
-refusal-back IdentifierRange = refl
-refusal-back NotTaken = refl
-refusal-back HeaderCut = refl
-refusal-back DataCut = refl
-refusal-back ServiceType = refl
-refusal-back TrailerFormat = refl
-refusal-back PgnForm = refl
-refusal-back TransferLength = refl
-refusal-back NotReceivers = refl
-refusal-back AnnouncementForm = refl
-refusal-back TooLong = refl
-refusal-back Assurance = refl
-refusal-back KeyOpen = refl
-refusal-back SlotsFull = refl
-refusal-back KeyNotOpen = refl
-refusal-back FormatIndicator = refl
-refusal-back AlreadyTaken = refl
-refusal-back OutOfSequence = refl
-refusal-back SegmentCut = refl
-refusal-back StatusMismatch = refl
-refusal-back Silence = refl
-refusal-back OutOfBounds = refl
-refusal-back PackRequest = refl
 
 kind-back : (k : Kind) → kindAt (kindByte k) ≡ k
 kind-back Rts = refl

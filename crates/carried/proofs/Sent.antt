@@ -15,8 +15,8 @@ use Rattle.frame.specs.declared.Address.{Address}
 use Rattle.frame.specs.declared.refusal.Refusal.the-variants.{OutOfBounds}
 use Rattle.transport.specs.Kinds.{isRts}
 use Rattle.transport.specs.declared.Key.{Key}
-use Rattle.transport.specs.declared.control.Announcement.{Announcement}
-use Rattle.transport.specs.Responses.{replyId}
+use Rattle.transport.specs.declared.announcement.Announcement.{Announcement}
+use Rattle.transport.specs.Heads.{idTo, toOriginator}
 use Rattle.answer.specs.declared.Answer.{Answer}
 use Rattle.answer.specs.Answers.{answerSends, wireOf}
 use Rattle.session.specs.declared.Session.{Session}
@@ -41,11 +41,11 @@ use Rattle.carried.proofs.ReadBack.{WireFits}
 
 -- ---- keys
 
-pub id-fits : (κ : Key) → κ .sa .0 ≤ 255 → κ .da .0 ≤ 255 → replyId κ < 4294967296
-unfolding replyId
+pub id-fits : (κ : Key) → κ .sa .0 ≤ 255 → κ .da .0 ≤ 255 → toOriginator κ < 4294967296
+unfolding idTo
 id-fits κ a b = omega arith
 
-pub session-id-fits : (own : Address) (s : Session) → own .0 ≤ 253 → sessionOk own s ≡ true → replyId (s .announced .key) < 4294967296
+pub session-id-fits : (own : Address) (s : Session) → own .0 ≤ 253 → sessionOk own s ≡ true → toOriginator (s .announced .key) < 4294967296
 session-id-fits own s h ok =
     let t = each-of (leb (s .announced .key .sa .0) 253 ∷ not (eqb (s .announced .key .sa .0) (own .0)) ∷ eqb (s .announced .key .da .0)
     (cond (isRts (s .announced .kind)) (own .0) 255) ∷ leb (s .announced .key .session .0) 15 ∷ []) (sound-of own s ok .key) in
@@ -75,7 +75,7 @@ wire-if true a b e f = e
 wire-if false a b e f = f
 
 module _ (k : ℕ) (low : k < 1048576) where
-  key-fits : replyId (keyAt k) < 4294967296
+  key-fits : toOriginator (keyAt k) < 4294967296
   key-fits = id-fits (keyAt k) (omega arith) (omega arith)
 
   reject-fits : (a : Announcement) (c : Cause) → Sends (reject k a c)

@@ -1,12 +1,11 @@
 -- Answers read off the bytes that a call gives: what a program in C can take from them.
-use Prim.Native.Nat.{ℕ, suc}
+use Prim.Native.Nat.{ℕ}
 use mathlib.Core.Bool.{cond}
 use mathlib.Core.Option.{Option, none, some}
-use mathlib.Core.List.{List, [], _∷_}
+use mathlib.Core.List.{List}
 use lib.Dec.{eqb}
 use lib.ListN.{getD, drop}
-use Rattle.frame.specs.declared.refusal.Refusal.{Refusal}
-use Rattle.frame.specs.declared.refusal.Refusal.the-variants.{FrameLength, IdentifierRange, NotTaken, HeaderCut, DataCut, ServiceType, TrailerFormat, PgnForm, TransferLength, NotReceivers, AnnouncementForm, TooLong, Assurance, KeyOpen, SlotsFull, KeyNotOpen, FormatIndicator, AlreadyTaken, OutOfSequence, SegmentCut, StatusMismatch, Silence, OutOfBounds, PackRequest}
+use Rattle.frame.specs.Numbers.{refusalAt}
 use Rattle.frame.specs.declared.judge.Route.{Route}
 use Rattle.transport.specs.declared.Key.{Key}
 use Rattle.answer.specs.declared.Ending.{Ending}
@@ -15,18 +14,6 @@ use Rattle.answer.specs.declared.Answer.the-variants.{Groups, Opened, Taken, Gr
 use Rattle.isolation.specs.Replies.{Wire}
 use Rattle.record_bytes.specs.Layout.{low32, kindAt}
 use Rattle.answer_bytes.specs.Places.{numberPlace, codePlace, saPlace, daPlace, sessionPlace, kindPlace, extraPlace, pgnPlace, totalPlace, segmentPlace, sentPlace, identifierPlace, dataPlace}
-
-abbrev pub firstOf : ℕ → ℕ → List Refusal → Refusal
-firstOf n i [] = PackRequest
-firstOf n i (x ∷ l) = cond (eqb n i) x (firstOf n (suc i) l)
-
--- by its number, from 1 on
-abbrev pub refusalAt : ℕ → Refusal
-refusalAt n =
-    firstOf n 1
-    (FrameLength ∷ IdentifierRange ∷ NotTaken ∷ HeaderCut ∷ DataCut ∷ ServiceType ∷ TrailerFormat ∷ PgnForm ∷
-    TransferLength ∷ NotReceivers ∷ AnnouncementForm ∷ TooLong ∷ Assurance ∷ KeyOpen ∷ SlotsFull ∷ KeyNotOpen ∷
-    FormatIndicator ∷ AlreadyTaken ∷ OutOfSequence ∷ SegmentCut ∷ StatusMismatch ∷ Silence ∷ OutOfBounds ∷ [])
 
 abbrev pub keyIn : List ℕ → Key
 keyIn p = record { sa = record { 0 = getD p saPlace 0 }; da = record { 0 = getD p daPlace 0 }; session = record { 0 = getD p sessionPlace 0 } }

@@ -20,7 +20,8 @@ use Rattle.transport.specs.declared.control.Control.the-variants as control
 use Rattle.transport.specs.declared.segment.Segment.{Segment}
 use Rattle.transport.specs.declared.segment.DataFrame.{DataFrame}
 use Rattle.transport.specs.declared.segment.DataFrame.the-variants as dataframe
-use Rattle.transport.specs.Control.{keyOf, controlOf}
+use Rattle.transport.specs.Control.{controlOf}
+use Rattle.transport.specs.Heads.{keyOf}
 use Rattle.transport.specs.Segments.{dataFrameOf}
 use Rattle.answer.specs.declared.Message.{Message}
 use Rattle.answer.specs.declared.Answer.{Answer}

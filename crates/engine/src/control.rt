@@ -18,11 +18,11 @@ use session::announcement;
 use session::end;
 use slots::Found;
 use transport::Key;
-use transport::control::Announcement;
+use transport::announcement::Announcement;
 use transport::control::Control;
-use transport::control::Status;
-use transport::control::key_of;
 use transport::control::read_control;
+use transport::eoms::Status;
+use transport::head::key_of;
 
 fn is_at(f: Found) -> bool
     ensures { λ r. ⌜ r ≡ isAt f ⌝ }

@@ -1,5 +1,6 @@
 -- The least length that holds a need, and that the test for a length is membership of the list of lengths.
-use Prim.Native.Nat.{ℕ, zero, suc, _≤_, _<_}
+use Prim.Native.Nat.{ℕ, zero, suc, _+_, _≤_, _<_}
+use native.Mathlib.Decide.{decLe}
 use native.Mathlib.Omega.{arith}
 use mathlib.Core.Path.{_≡_, refl, sym}
 use mathlib.Core.Bool.{Bool, true, false, cond, _&&_, _||_, false≢true, or-assoc, or-false}
@@ -10,7 +11,7 @@ use lib.Dec.{eqb, leb}
 use borrow.Author.Tests.{eqb-true, leb-true, leb-false, eq-eqb, ne-eqb, lt-leb}
 use Rattle.laws.specs.Bools.{or-either}
 use Rattle.laws.specs.Choice.{or-stop, each-of}
-use Rattle.frame.specs.Lengths.{lengths, isLength, firstHolding, leastLength}
+use Rattle.frame.specs.Lengths.{lengths, isLength, firstHolding, leastLength, holding, frameLength}
 use Rattle.frame.specs.declared.length.Least.{Least}
 use Rattle.frame.specs.declared.length.Least.the-variants.{Length, Nothing}
 
@@ -72,6 +73,31 @@ least-length need n e = first-least 0 need lengths n refl e
 
 pub length-found : (need : ℕ) → need ≤ 64 → leastLength need ≡ Nothing → ⊥
 length-found need h e = first-found need 64 lengths refl h e
+
+-- the length of a frame holds what the frame is for
+pub frame-least : (need : ℕ) → need ≤ 64 → LeastOf lengths need (frameLength need)
+unfolding frameLength
+frame-least need h = go (leastLength need) refl where
+  go : (l : Least) → leastLength need ≡ l → LeastOf lengths need (holding l)
+  go (Length n) e = least-length need n e
+  go Nothing e = absurd (length-found need h e)
+
+pub frame-bounds : (need : ℕ) → need ≤ 64 → (need ≤ frameLength need) × (frameLength need ≤ 64)
+frame-bounds need h = let l = frame-least need h in (l .holds, l .least 64 refl h)
+
+-- and is at most 15 bytes longer
+pub frame-gap : (need : ℕ) → need ≤ 64 → frameLength need ≤ need + 15
+frame-gap need h = go (decLe need 8) (decLe need 24) (decLe need 32) (decLe need 48)
+  where
+    least : (m : ℕ) → among m lengths ≡ true → need ≤ m → frameLength need ≤ m
+    least = frame-least need h .least
+
+    go : Dec (need ≤ 8) → Dec (need ≤ 24) → Dec (need ≤ 32) → Dec (need ≤ 48) → frameLength need ≤ need + 15
+    go (yes a) b c d = omega (arith, least 8 refl a)
+    go (no a) (yes b) c d = omega (arith, least 24 refl b)
+    go (no a) (no b) (yes c) d = omega (arith, least 32 refl c)
+    go (no a) (no b) (no c) (yes d) = omega (arith, least 48 refl d)
+    go (no a) (no b) (no c) (no d) = omega (arith, least 64 refl h)
 
 -- ---- the test for a length
 

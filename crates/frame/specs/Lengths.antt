@@ -19,3 +19,11 @@ firstHolding need (n ∷ ns) = cond (leb need n) (Length n) (firstHolding need n
 
 abbrev pub leastLength : ℕ → Least
 leastLength need = firstHolding need lengths
+
+abbrev pub holding : Least → ℕ
+holding (Length n) = n
+holding Nothing = 64
+
+-- the next allowed length
+unfoldable pub frameLength : ℕ → ℕ
+frameLength need = holding (leastLength need)

@@ -1,4 +1,5 @@
 pub mod Refusals
+pub mod Numbers
 pub mod Octets
 pub mod Pgn
 pub mod Lengths

@@ -1,7 +1,7 @@
--- The numbers of the refusals: 01, "Numbered refusals".
+-- The numbers of the refusals: 01, "Numbered refusals", and 02.
 use Prim.Native.Nat.{ℕ}
 use Rattle.frame.specs.declared.refusal.Refusal.{Refusal}
-use Rattle.frame.specs.declared.refusal.Refusal.the-variants.{FrameLength, IdentifierRange, NotTaken, HeaderCut, DataCut, ServiceType, TrailerFormat, PgnForm, TransferLength, NotReceivers, AnnouncementForm, TooLong, Assurance, KeyOpen, SlotsFull, KeyNotOpen, FormatIndicator, AlreadyTaken, OutOfSequence, SegmentCut, StatusMismatch, Silence, OutOfBounds, PackRequest}
+use Rattle.frame.specs.declared.refusal.Refusal.the-variants.{FrameLength, IdentifierRange, NotTaken, HeaderCut, DataCut, ServiceType, TrailerFormat, PgnForm, TransferLength, NotReceivers, AnnouncementForm, TooLong, Assurance, KeyOpen, SlotsFull, KeyNotOpen, FormatIndicator, AlreadyTaken, OutOfSequence, SegmentCut, StatusMismatch, Silence, OutOfBounds, PackRequest, TransfersFull, MessageLength, GrantRange}
 
 abbrev pub numberOf : Refusal → ℕ
 numberOf FrameLength = 1
@@ -28,3 +28,7 @@ numberOf StatusMismatch = 21
 numberOf Silence = 22
 numberOf OutOfBounds = 23
 numberOf PackRequest = 24
+-- 02, E2: the sender's
+numberOf TransfersFull = 25
+numberOf MessageLength = 26
+numberOf GrantRange = 27

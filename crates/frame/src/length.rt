@@ -1,6 +1,6 @@
 // The data lengths of a CAN FD frame (01, "Numbers that hold everywhere").
 ghost use mathlib.Core.Path.{_≡_};
-ghost use Rattle.frame.specs.Lengths.{isLength, leastLength};
+ghost use Rattle.frame.specs.Lengths.{isLength, leastLength, frameLength};
 
 // In rising order.
 const LENGTHS: [usize; 16] = [0, 1, 2, 3, 4, 5, 6, 7, 8, 12, 16, 20, 24, 32, 48, 64];
@@ -29,4 +29,14 @@ pub fn least_length(need: usize) -> Least
         i = i + 1;
     }
     Least::Nothing
+}
+
+// The length of a frame that holds need bytes.
+pub fn frame_length(need: usize) -> usize
+    ensures { λ r. ⌜ r ≡ frameLength need ⌝ }
+{
+    match least_length(need) {
+        Least::Length(n) => n,
+        Least::Nothing => 64,
+    }
 }

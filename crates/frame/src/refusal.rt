@@ -1,4 +1,4 @@
-// The numbered refusals (01, "Numbered refusals").
+// The numbered refusals (01, "Numbered refusals"; 02).
 ghost use mathlib.Core.Path.{_≡_};
 ghost use Rattle.frame.specs.Refusals.{numberOf};
 
@@ -51,9 +51,15 @@ pub enum Refusal {
     OutOfBounds,
     // 24: a request that the packer cannot meet
     PackRequest,
+    // 25: no transfer is free
+    TransfersFull,
+    // 26: a message of a length that is not announced, or not as announced
+    MessageLength,
+    // 27: a CTS for a segment that the message does not have
+    GrantRange,
 }
 
-// The number of a refusal in 01's table.
+// The number of a refusal in 01 and 02.
 pub fn number(r: Refusal) -> u8
     ensures { λ n. ⌜ n ≡ numberOf r ⌝ }
 {
@@ -82,5 +88,8 @@ pub fn number(r: Refusal) -> u8
         Refusal::Silence => 22,
         Refusal::OutOfBounds => 23,
         Refusal::PackRequest => 24,
+        Refusal::TransfersFull => 25,
+        Refusal::MessageLength => 26,
+        Refusal::GrantRange => 27,
     }
 }

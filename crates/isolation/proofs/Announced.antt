@@ -5,7 +5,7 @@ use mathlib.Core.Bool.{Bool, false, not}
 use mathlib.Core.Option.{Option, none, some}
 use lib.Dec.{eqb, ltb}
 use Rattle.frame.specs.declared.Address.{Address}
-use Rattle.transport.specs.declared.control.Announcement.{Announcement}
+use Rattle.transport.specs.declared.announcement.Announcement.{Announcement}
 use Rattle.isolation.specs.Standard.{Cause, inPgnForm}
 use Rattle.isolation.specs.Replies.{refuse, reject}
 use Rattle.isolation.specs.Rules.{Open, Out, misdirected, badNumbers, opens, startsAnew, admitted, announced}

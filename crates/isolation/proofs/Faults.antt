@@ -20,15 +20,19 @@ use Rattle.frame.specs.Pgn.{pgnOk}
 use Rattle.multi_pg.specs.Groups.{GroupsRead, good, bad, groupsRead}
 use Rattle.transport.specs.Kinds.{isRts}
 use Rattle.transport.specs.declared.Key.{Key}
-use Rattle.transport.specs.declared.control.Announcement.{Announcement}
+use Rattle.transport.specs.declared.announcement.Announcement.{Announcement}
 use Rattle.transport.specs.declared.control.Control.{Control}
-use Rattle.transport.specs.declared.control.Status.{Status}
+use Rattle.transport.specs.declared.eoms.Status.{Status}
 use Rattle.transport.specs.declared.segment.Segment.{Segment}
 use Rattle.transport.specs.declared.segment.DataFrame.{DataFrame}
 use Rattle.transport.specs.declared.segment.DataFrame.the-variants as dataframe
 use Rattle.transport.specs.declared.Kind.the-variants.{Rts, Bam}
 use Rattle.transport.specs.declared.control.Control.the-variants as control
-use Rattle.transport.specs.Control.{controlAt, announcementAt, statusAt, roleAt, abortPgnAt, keyOf, controlOf}
+use Rattle.transport.specs.Control.{controlOf}
+use Rattle.transport.specs.Heads.{controlAt, keyOf}
+use Rattle.transport.specs.Announcements.{announcementAt}
+use Rattle.transport.specs.Eoms.{statusAt}
+use Rattle.transport.specs.Aborts.{roleAt, abortPgnAt}
 use Rattle.transport.specs.Segments.{segmentAt, dataFrameOf}
 use Rattle.answer.specs.declared.Answer.{Answer}
 use Rattle.answer.specs.declared.Answer.the-variants as answer

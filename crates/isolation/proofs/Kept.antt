@@ -7,7 +7,7 @@ use mathlib.Core.Option.{Option, none, some}
 use mathlib.Core.List.{List}
 use lib.Dec.{eqb, ltb}
 use lib.ListN.{length}
-use Rattle.transport.specs.declared.control.Announcement.{Announcement}
+use Rattle.transport.specs.declared.announcement.Announcement.{Announcement}
 use Rattle.isolation.specs.OwnFrames.{Body, announce, segment, status, abort}
 use Rattle.isolation.specs.Rules.{Values, Open, Out, badNumbers, opens, announced, nextOf, isTaken, due, adds, segmentOpen, asAnnounced, statusOpen, abortOpen, ifOpen, rule, isSilent, judgedAt}
 use Rattle.isolation.proofs.Tests.{either-way}

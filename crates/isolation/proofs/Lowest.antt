@@ -10,10 +10,11 @@ use lib.Seq.{getD-set-same, getD-set-other}
 use Rattle.frame.specs.Judge.{judged}
 use Rattle.frame.specs.Refusals.{numberOf}
 use Rattle.frame.specs.declared.refusal.Refusal.{Refusal}
-use Rattle.frame.specs.declared.refusal.Refusal.the-variants.{FrameLength, IdentifierRange, NotTaken, HeaderCut, DataCut, ServiceType, TrailerFormat, PgnForm, TransferLength, NotReceivers, AnnouncementForm, TooLong, Assurance, KeyOpen, SlotsFull, KeyNotOpen, FormatIndicator, AlreadyTaken, OutOfSequence, SegmentCut, StatusMismatch, Silence, OutOfBounds, PackRequest}
+use Rattle.frame.specs.declared.refusal.Refusal.the-variants.{AnnouncementForm, KeyOpen, SlotsFull, OutOfBounds}
+use Rattle.frame.specs.Numbers.{number-range}
 use Rattle.transport.specs.Kinds.{isRts}
 use Rattle.transport.specs.declared.Key.{Key}
-use Rattle.transport.specs.declared.control.Announcement.{Announcement}
+use Rattle.transport.specs.declared.announcement.Announcement.{Announcement}
 use Rattle.answer.specs.declared.Answer.the-variants as answer
 use Rattle.answer.specs.Answers.{answerNumber}
 use Rattle.session.specs.declared.Session.{Session}
@@ -64,30 +65,7 @@ rejects κ a n = go (isRts (a .kind))
 
 -- every refusal has a number
 pub some-number : (n : Refusal) → numberOf n ≡ 0 → ⊥
-some-number FrameLength e = omega arith
-some-number IdentifierRange e = omega arith
-some-number NotTaken e = omega arith
-some-number HeaderCut e = omega arith
-some-number DataCut e = omega arith
-some-number ServiceType e = omega arith
-some-number TrailerFormat e = omega arith
-some-number PgnForm e = omega arith
-some-number TransferLength e = omega arith
-some-number NotReceivers e = omega arith
-some-number AnnouncementForm e = omega arith
-some-number TooLong e = omega arith
-some-number Assurance e = omega arith
-some-number KeyOpen e = omega arith
-some-number SlotsFull e = omega arith
-some-number KeyNotOpen e = omega arith
-some-number FormatIndicator e = omega arith
-some-number AlreadyTaken e = omega arith
-some-number OutOfSequence e = omega arith
-some-number SegmentCut e = omega arith
-some-number StatusMismatch e = omega arith
-some-number Silence e = omega arith
-some-number OutOfBounds e = omega arith
-some-number PackRequest e = omega arith
+some-number n e = let r = number-range n .0 in omega arith
 
 module _ (κ : Key) (a : Announcement) (last : ℕ) where
   abbrev Admits : State → Bool → Type 0

@@ -10,8 +10,8 @@ use lib.Dec.{eqb, ltb}
 use lib.ListN.{length, take, length-take, length-append}
 use borrow.Author.Tests.{ltb-false, eqb-true, eqb-false, eq-eqb, ne-eqb, not-false}
 use Rattle.isolation.specs.Standard.{Cause}
-use Rattle.transport.specs.declared.control.Announcement.{Announcement}
-use Rattle.transport.specs.declared.control.Status.{Status}
+use Rattle.transport.specs.declared.announcement.Announcement.{Announcement}
+use Rattle.transport.specs.declared.eoms.Status.{Status}
 use Rattle.session.specs.Segments.{dueOf}
 use Rattle.isolation.specs.OwnFrames as F
 use Rattle.isolation.specs.Replies as P

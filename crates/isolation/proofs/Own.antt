@@ -10,7 +10,10 @@ use lib.ListN.{length}
 use borrow.Author.Tests.{eqb-true, ne-eqb}
 use Rattle.frame.specs.declared.Address.{Address}
 use Rattle.frame.specs.Identifiers.{identifierOf}
-use Rattle.transport.specs.Control.{controlAt, announcementAt, statusAt, roleAt, abortPgnAt}
+use Rattle.transport.specs.Heads.{controlAt}
+use Rattle.transport.specs.Announcements.{announcementAt}
+use Rattle.transport.specs.Eoms.{statusAt}
+use Rattle.transport.specs.Aborts.{roleAt, abortPgnAt}
 use Rattle.transport.specs.Segments.{formatAt, numberAt, dataAt}
 use Rattle.isolation.specs.Standard.{fdLengths, isOneOf}
 use Rattle.transport.specs.declared.Kind.the-variants.{Rts, Bam}

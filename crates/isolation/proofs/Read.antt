@@ -27,7 +27,9 @@ use Rattle.answer.specs.Answers.{answerNumber, answerSends}
 use Rattle.transport.specs.declared.Key.{Key}
 use Rattle.transport.specs.declared.control.Control.{Control}
 use Rattle.transport.specs.declared.segment.DataFrame.the-variants as dataframe
-use Rattle.transport.specs.Control.{controlAt, sessionAt, roleAt, keyOf, controlOf}
+use Rattle.transport.specs.Control.{controlOf}
+use Rattle.transport.specs.Heads.{controlAt, sessionAt, keyOf}
+use Rattle.transport.specs.Aborts.{roleAt}
 use Rattle.transport.specs.Segments.{formatAt, numberAt, segmentAt, dataAt, dataFrameOf}
 use Rattle.receiver.specs.declared.Receiver.{Receiver}
 use Rattle.answer.specs.declared.Answer.{Answer}

@@ -14,7 +14,7 @@ use Rattle.frame.specs.Judge.{judged}
 use Rattle.frame.specs.declared.refusal.Refusal.the-variants.{OutOfBounds}
 use Rattle.transport.specs.Kinds.{isRts}
 use Rattle.transport.specs.declared.Key.{Key}
-use Rattle.transport.specs.declared.control.Announcement.{Announcement}
+use Rattle.transport.specs.declared.announcement.Announcement.{Announcement}
 use Rattle.answer.specs.declared.Answer.the-variants.{Grant}
 use Rattle.answer.specs.Answers.{answerNumber}
 use Rattle.session.specs.declared.Session.{Session}

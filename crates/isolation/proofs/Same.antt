@@ -17,7 +17,7 @@ use Rattle.frame.specs.Pgn.{pgnOk}
 use Rattle.transport.specs.Reasons.{reasonOf}
 use Rattle.transport.specs.declared.Kind.{Kind}
 use Rattle.transport.specs.declared.Kind.the-variants.{Rts, Bam}
-use Rattle.transport.specs.declared.control.Announcement.{Announcement}
+use Rattle.transport.specs.declared.announcement.Announcement.{Announcement}
 use Rattle.transport.specs.Kinds.{isRts}
 use Rattle.progress.specs.Forward.{grantOf}
 use Rattle.session.specs.Announcements as S

@@ -14,8 +14,8 @@ use Rattle.frame.specs.declared.refusal.Refusal.the-variants.{AnnouncementForm,
 use Rattle.frame.specs.Pgn.{pgnOk}
 use Rattle.transport.specs.Kinds.{isRts}
 use Rattle.transport.specs.declared.Key.{Key}
-use Rattle.transport.specs.declared.control.Announcement.{Announcement}
-use Rattle.transport.specs.declared.control.Status.{Status}
+use Rattle.transport.specs.declared.announcement.Announcement.{Announcement}
+use Rattle.transport.specs.declared.eoms.Status.{Status}
 use Rattle.transport.specs.declared.segment.Segment.{Segment}
 use Rattle.transport.specs.Segments.{dataAt}
 use Rattle.answer.specs.declared.Answer.{Answer}

@@ -9,7 +9,8 @@ use Rattle.multi_pg.specs.Groups as Groups
 use Rattle.transport.specs.declared.Kind.the-variants.{Rts}
 use Rattle.transport.specs.Control.{controlOf}
 use Rattle.transport.specs.Segments.{dataFrameOf}
-use Rattle.transport.specs.Responses.{responseBytes, replyId}
+use Rattle.transport.specs.Heads.{idTo}
+use Rattle.transport.specs.Responses.{responseBytes}
 use Rattle.transport.specs.Reasons.{reasonOf}
 use Rattle.progress.specs.Forward.{grantOf}
 use Rattle.session.specs.Announcements.{formOf}
@@ -58,7 +59,7 @@ whole-case : observed (record { own = record { 0 = 33 }; limit = 1250 }) k (open
     })
     ∷ []
 unfolding opened inBounds slotsOk frameAll judged byFormat controlStep controlOf announceStep formOf announcedTo grantOf
-    dataFrameOf segmentStep segmentTo judgedOf dueOf readingStep elapsed Groups.groupsRead Groups.readFrom responseBytes replyId
+    dataFrameOf segmentStep segmentTo judgedOf dueOf readingStep elapsed Groups.groupsRead Groups.readFrom responseBytes idTo
     reasonOf k calls observed shows recordAfter storeAfter frameSeen isOwn isBody strays lost openIn touches replyOf saysOf
     readingSeen endingsOf endingOf frameKey bodyOf taken isOneOf fdLengths controlBody dataBody
 whole-case = refl

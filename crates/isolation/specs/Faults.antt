@@ -7,7 +7,8 @@ use lib.Dec.{eqb, leb, ltb}
 use lib.ListN.{length}
 use Rattle.frame.specs.declared.Address.{Address}
 use Rattle.frame.specs.Identifiers.{identifierOf}
-use Rattle.transport.specs.Control.{controlAt, roleAt}
+use Rattle.transport.specs.Heads.{controlAt}
+use Rattle.transport.specs.Aborts.{roleAt}
 use Rattle.isolation.specs.Standard.{fdLengths, isOneOf}
 
 -- both pages 0; DA the own address or 255; SA not 254, 255 or the own address; PF 37, 77 or 78

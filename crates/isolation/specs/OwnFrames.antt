@@ -11,9 +11,12 @@ use Rattle.frame.specs.Identifiers.{identifierOf}
 use Rattle.transport.specs.declared.Key.{Key}
 use Rattle.transport.specs.declared.Kind.{Kind}
 use Rattle.transport.specs.declared.Kind.the-variants.{Rts, Bam}
-use Rattle.transport.specs.declared.control.Announcement.{Announcement}
-use Rattle.transport.specs.declared.control.Status.{Status}
-use Rattle.transport.specs.Control.{controlAt, sessionAt, announcementAt, statusAt, roleAt, abortPgnAt}
+use Rattle.transport.specs.declared.announcement.Announcement.{Announcement}
+use Rattle.transport.specs.declared.eoms.Status.{Status}
+use Rattle.transport.specs.Heads.{controlAt, sessionAt}
+use Rattle.transport.specs.Announcements.{announcementAt}
+use Rattle.transport.specs.Eoms.{statusAt}
+use Rattle.transport.specs.Aborts.{roleAt, abortPgnAt}
 use Rattle.transport.specs.Segments.{formatAt, numberAt, dataAt}
 use Rattle.isolation.specs.Standard.{fdLengths, isOneOf}
 

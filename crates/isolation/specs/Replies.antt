@@ -6,7 +6,7 @@ use mathlib.Core.Option.{Option, none, some}
 use mathlib.Core.List.{List}
 use Rattle.transport.specs.declared.Key.{Key}
 use Rattle.transport.specs.declared.Kind.{Kind}
-use Rattle.transport.specs.declared.control.Announcement.{Announcement}
+use Rattle.transport.specs.declared.announcement.Announcement.{Announcement}
 use Rattle.transport.specs.declared.response.Response.{Response}
 use Rattle.transport.specs.declared.response.Response.the-variants as response
 use Rattle.transport.specs.Responses.{responseBytes, responseId}

@@ -9,8 +9,8 @@ use lib.ListN.{length, take}
 use Rattle.frame.specs.declared.Address.{Address}
 use Rattle.transport.specs.declared.Kind.{Kind}
 use Rattle.transport.specs.declared.Kind.the-variants.{Rts, Bam}
-use Rattle.transport.specs.declared.control.Announcement.{Announcement}
-use Rattle.transport.specs.declared.control.Status.{Status}
+use Rattle.transport.specs.declared.announcement.Announcement.{Announcement}
+use Rattle.transport.specs.declared.eoms.Status.{Status}
 use Rattle.isolation.specs.Standard.{Cause, pgnWrong, numbersWrong, tooLong, assured, keyOpen, eightOpen, outOfOrder, unlikeAnnounced, silent, inPgnForm}
 use Rattle.isolation.specs.OwnFrames.{keyAt, isRts, Body, announce, segment, status, abort}
 use Rattle.isolation.specs.Replies.{Reply, opened, took, aborted, refuse, reject, ending, cts, plain, handOver}

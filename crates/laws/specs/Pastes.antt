@@ -4,7 +4,7 @@ use native.Mathlib.Omega.{arith}
 use mathlib.Core.Path.{_≡_, sym, ap, _∙_}
 use mathlib.Core.List.{List, _++_, append-assoc, append-nil}
 use lib.ListN.{length, take, drop, length-append, length-drop, drop-of-length-le, take-append-drop}
-use lib.Seq.{paste, take-paste, take-all, take-length, take-add, take-append-add, drop-append-add, length-take-le}
+use lib.Seq.{paste, take-paste, take-all, take-at, take-length, take-add, take-append-add, drop-at, drop-drop, drop-append-add, length-take-le}
 
 -- all of s
 pub paste-whole : (d : List ℕ) (at : ℕ) (s : List ℕ) → paste d at s (length s) ≡ take at d ++ s ++ drop (at + length s) d
@@ -46,6 +46,14 @@ paste-end d at s n e f =
     ap (λ (l : List ℕ). take at d ++ take n s ++ l) (drop-of-length-le d w)
     ∙ append-nil (take at d ++ take n s)
     ∙ ap (λ (l : List ℕ). take at d ++ l) (take-all n s (omega arith))
+
+-- a list written from its front: p is there, and the next n elements go behind it
+pub paste-next : (d o p s : List ℕ) (at n : ℕ) → length p ≡ at → o ≡ p ++ drop at d → paste o at s n ≡ p ++ take n s ++ drop (at + n) d
+paste-next d o p s at n e f =
+    ap (λ (l : List ℕ). paste l at s n) f
+    ∙ ap (λ (l : List ℕ). l ++ take n s ++ drop (at + n) (p ++ drop at d)) (take-at p (drop at d) at e)
+    ∙ ap (λ (l : List ℕ). p ++ take n s ++ l)
+    (sym (drop-drop n at (p ++ drop at d)) ∙ ap (drop n) (drop-at p (drop at d) at e) ∙ drop-drop n at d)
 
 -- a copy by way of an array
 pub copied-twice : (o d a b s : List ℕ) (at n m : ℕ) → n ≡ m → m ≤ length s → b ≡ paste a 0 s m → o ≡ paste d at (drop 0 b) m → o ≡ paste d at s n

@@ -5,9 +5,7 @@ use mathlib.Core.List.{List, [], _∷_, _++_}
 use lib.Dec.{eqb, leb, ltb}
 use lib.ListN.{length, take, drop, replicate}
 use Rattle.frame.specs.Pgn.{pgnOk}
-use Rattle.frame.specs.Lengths.{leastLength}
-use Rattle.frame.specs.declared.length.Least.{Least}
-use Rattle.frame.specs.declared.length.Least.the-variants.{Length, Nothing}
+use Rattle.frame.specs.Lengths.{frameLength}
 use Rattle.frame.specs.declared.refusal.Refusal.the-variants.{PgnForm, PackRequest}
 use Rattle.packing.specs.declared.Packed.{Packed}
 use Rattle.packing.specs.declared.Packed.the-variants.{Frame, Refused}
@@ -45,14 +43,6 @@ needed lengths = 4 * length lengths + sum lengths
 -- a need above 64, whatever it is, counts as 65
 abbrev pub capped : ℕ → ℕ
 capped need = cond (leb need 64) need 65
-
-abbrev pub holding : Least → ℕ
-holding (Length n) = n
-holding Nothing = 64
-
--- the next allowed length
-unfoldable pub frameLength : ℕ → ℕ
-frameLength need = holding (leastLength need)
 
 -- ---- a request
 

@@ -11,7 +11,7 @@ use lib.ListN.{length, getD, take, drop, length-append, length-drop, take-append
 use lib.Seq.{getD-append-add, drop-append-add, length-take-le, take-at, take-all, drop-at}
 use borrow.Author.Tests.{eq-eqb, ltb-true}
 use Rattle.laws.specs.Choice.{then, each-of}
-use Rattle.frame.specs.Lengths.{lengths as Lengths, isLength}
+use Rattle.frame.specs.Lengths.{lengths as Lengths, isLength, frameLength}
 use Rattle.frame.specs.Pgn.{pgnOk, lowByteOk}
 use Rattle.frame.specs.declared.refusal.Refusal.{Refusal}
 use Rattle.frame.specs.declared.refusal.Refusal.the-variants.{PgnForm, PackRequest}
@@ -24,9 +24,9 @@ use Rattle.multi_pg.specs.Reader.{Chain, last, link, chain-good}
 use Rattle.multi_pg.specs.Table.{groups, shownBy, shown}
 use Rattle.packing.specs.declared.Packed.{Packed}
 use Rattle.packing.specs.declared.Packed.the-variants.{Frame, Refused}
-use Rattle.frame.specs.LengthLaws.{LeastOf, is-among}
-use Rattle.packing.specs.Packing.{headerOf, body, padding, sum, needed, frameLength, pgnsOk, requestFits, frameOf, packed}
-use Rattle.packing.specs.Shapes.{Met, request-met, padding-at, frame-least, length-frame}
+use Rattle.frame.specs.LengthLaws.{LeastOf, is-among, frame-least}
+use Rattle.packing.specs.Packing.{headerOf, body, padding, sum, needed, pgnsOk, requestFits, frameOf, packed}
+use Rattle.packing.specs.Shapes.{Met, request-met, padding-at, length-frame}
 
 -- ---- the groups of a request
 

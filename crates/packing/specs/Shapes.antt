@@ -8,14 +8,13 @@ use mathlib.Core.List.{List, [], _∷_, _++_}
 use mathlib.Core.Bool.{true, _&&_}
 use lib.Dec.{eqb, leb, ltb}
 use lib.ListN.{length, getD, set, take, drop, replicate, length-append, length-drop, length-replicate, getD-replicate, List·getD-append}
-use lib.Seq.{paste, paste-suc, getD-append-add, length-take-le, take-at, take-all, drop-at, drop-drop}
+use lib.Seq.{paste, paste-suc, getD-append-add, length-take-le, take-all}
 use borrow.Author.Tests.{lt-ltb, le-ltb, le-leb, lt-leb, leb-true, eqb-true}
 use Rattle.laws.specs.Choice.{then, else, each-of}
-use Rattle.frame.specs.Lengths.{lengths, leastLength}
-use Rattle.frame.specs.declared.length.Least.{Least}
-use Rattle.frame.specs.declared.length.Least.the-variants.{Length, Nothing}
-use Rattle.frame.specs.LengthLaws.{LeastOf, least-length, length-found}
-use Rattle.packing.specs.Packing.{body, padding, padByte, sum, needed, capped, holding, frameLength, requestFits, frameOf}
+use Rattle.laws.specs.Pastes.{paste-next}
+use Rattle.frame.specs.LengthLaws.{frame-bounds}
+use Rattle.packing.specs.Packing.{body, padding, padByte, sum, needed, capped, requestFits, frameOf}
+use Rattle.frame.specs.Lengths.{frameLength}
 
 pub length-body : (ps ns d : List ℕ) → length ps ≡ length ns → length d ≡ sum ns → length (body ps ns d) ≡ needed ns
 unfolding body
@@ -87,18 +86,6 @@ request-met ps ns d out e =
       output = eqb-true out 64 h;
     }
 
--- ---- a frame's length
-
-pub frame-least : (need : ℕ) → need ≤ 64 → LeastOf lengths need (frameLength need)
-unfolding frameLength
-frame-least need h = go (leastLength need) refl where
-  go : (l : Least) → leastLength need ≡ l → LeastOf lengths need (holding l)
-  go (Length n) e = least-length need n e
-  go Nothing e = absurd (length-found need h e)
-
-pub frame-bounds : (need : ℕ) → need ≤ 64 → (need ≤ frameLength need) × (frameLength need ≤ 64)
-frame-bounds need h = let l = frame-least need h in (l .holds, l .least 64 refl h)
-
 module _ (ps ns d : List ℕ) (even : length ps ≡ length ns) (whole : length d ≡ sum ns) (small : needed ns ≤ 64) where
   pub length-frame : length (frameOf ps ns d) ≡ frameLength (needed ns)
   length-frame =
@@ -116,10 +103,6 @@ module _ (ps ns d : List ℕ) (even : length ps ≡ length ns) (whole : length d
       let gap : ℕ = frameLength (needed ns) - needed ns in
       let e : needed ns + gap ≡ frameLength (needed ns) = omega arith in
       let l : length (body ps ns d) ≡ needed ns = length-body ps ns d even whole in
-      ap (λ (x : List ℕ). x ++ take gap (padding gap) ++ drop (needed ns + gap) (body ps ns d ++ drop (needed ns) o)) (take-at (body ps ns d) (drop (needed ns) o) (needed ns) l)
-      ∙ ap (λ (x : List ℕ). body ps ns d ++ x ++ drop (needed ns + gap) (body ps ns d ++ drop (needed ns) o)) (take-all gap (padding gap) (omega (arith, length-padding gap)))
-      ∙ ap (λ (x : List ℕ). body ps ns d ++ padding gap ++ x)
-      (sym (drop-drop gap (needed ns) (body ps ns d ++ drop (needed ns) o))
-      ∙ ap (drop gap) (drop-at (body ps ns d) (drop (needed ns) o) (needed ns) l)
-      ∙ drop-drop gap (needed ns) o
-      ∙ ap (λ (k : ℕ). drop k o) e)
+      paste-next o _ (body ps ns d) (padding gap) (needed ns) gap l refl
+      ∙ ap (λ (x : List ℕ). body ps ns d ++ x ++ drop (needed ns + gap) o) (take-all gap (padding gap) (omega (arith, length-padding gap)))
+      ∙ ap (λ (k : ℕ). body ps ns d ++ padding gap ++ drop k o) e

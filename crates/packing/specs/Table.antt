@@ -7,7 +7,8 @@ use lib.ListN.{length, drop, replicate}
 use borrow.Author.Tests.{ne-eqb}
 use Rattle.frame.specs.declared.refusal.Refusal.the-variants.{PgnForm, PackRequest}
 use Rattle.packing.specs.declared.Packed.the-variants.{Frame, Refused}
-use Rattle.packing.specs.Packing.{body, frameLength, requestFits, packed}
+use Rattle.packing.specs.Packing.{body, requestFits, packed}
+use Rattle.frame.specs.Lengths.{frameLength}
 
 -- 21 bytes
 abbrev some : List ℕ

@@ -1,10 +1,10 @@
 // The packer of Multi-PG frames (01, "Groups in one frame").
 ghost use mathlib.Core.Path.{_≡_};
 ghost use Rattle.packing.specs.Packing.{packed};
+use frame::length::frame_length;
 use frame::refusal::Refusal;
 use request::all_pgns;
 use request::fits;
-use request::frame_length;
 use request::need;
 use write::pad;
 use write::write_groups;

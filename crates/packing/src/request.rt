@@ -1,10 +1,8 @@
-// Whether a request can be met, and the length of the frame that meets it.
+// Whether a request can be met.
 ghost use mathlib.Core.Path.{_≡_};
 ghost use Prim.Native.Nat.{_<_};
 ghost use lib.ListN.{length};
-ghost use Rattle.packing.specs.Packing.{pgnsOk, needed, capped, requestFits, frameLength};
-use frame::length::Least;
-use frame::length::least_length;
+ghost use Rattle.packing.specs.Packing.{pgnsOk, needed, capped, requestFits};
 use frame::pgn::is_pgn;
 
 // Whether every number of the list is a PGN.
@@ -53,14 +51,4 @@ pub fn fits(bytes: usize, pgns: &[u32], lengths: &[u8], data: &[u8], out: usize)
         return false;
     }
     (pgns.len() == lengths.len()) & (data.len() == bytes - 4 * lengths.len()) & (out == 64)
-}
-
-// The length of the frame for so many bytes.
-pub fn frame_length(bytes: usize) -> usize
-    ensures { λ r. ⌜ r ≡ frameLength bytes ⌝ }
-{
-    match least_length(bytes) {
-        Least::Length(n) => n,
-        Least::Nothing => 64,
-    }
 }

@@ -7,7 +7,7 @@ use mathlib.Core.List.{List, [], _∷_, _++_}
 use lib.ListN.{length, getD, length-append}
 use Rattle.frame.specs.Refusals.{numberOf}
 use Rattle.frame.specs.declared.refusal.Refusal.{Refusal}
-use Rattle.frame.specs.declared.refusal.Refusal.the-variants as refusal
+use Rattle.frame.specs.Numbers.{number-range}
 use Rattle.frame.specs.declared.judge.Route.{Route}
 use Rattle.multi_pg.specs.declared.Group.{Group}
 use Rattle.multi_pg.specs.Groups.{dataLength, pgnAt, groupAt, GroupsRead, good, bad, groupsRead, groupsIn, groupsOf}
@@ -53,30 +53,7 @@ AnswerSmall (RefusedRts j) = KeySmall (j .key)
 AnswerSmall (Refused n) = Unit {0}
 
 number-small : (n : Refusal) → Small (numberOf n)
-number-small refusal.FrameLength = omega arith
-number-small refusal.IdentifierRange = omega arith
-number-small refusal.NotTaken = omega arith
-number-small refusal.HeaderCut = omega arith
-number-small refusal.DataCut = omega arith
-number-small refusal.ServiceType = omega arith
-number-small refusal.TrailerFormat = omega arith
-number-small refusal.PgnForm = omega arith
-number-small refusal.TransferLength = omega arith
-number-small refusal.NotReceivers = omega arith
-number-small refusal.AnnouncementForm = omega arith
-number-small refusal.TooLong = omega arith
-number-small refusal.Assurance = omega arith
-number-small refusal.KeyOpen = omega arith
-number-small refusal.SlotsFull = omega arith
-number-small refusal.KeyNotOpen = omega arith
-number-small refusal.FormatIndicator = omega arith
-number-small refusal.AlreadyTaken = omega arith
-number-small refusal.OutOfSequence = omega arith
-number-small refusal.SegmentCut = omega arith
-number-small refusal.StatusMismatch = omega arith
-number-small refusal.Silence = omega arith
-number-small refusal.OutOfBounds = omega arith
-number-small refusal.PackRequest = omega arith
+number-small n = let r = number-range n .1 in omega arith
 
 -- ---- lines of one session
 

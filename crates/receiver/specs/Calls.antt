@@ -14,14 +14,15 @@ use Rattle.frame.specs.declared.refusal.Refusal.{Refusal}
 use Rattle.frame.specs.declared.refusal.Refusal.the-variants.{OutOfBounds}
 use Rattle.multi_pg.specs.Groups.{GroupsRead, good, bad, groupsRead}
 use Rattle.transport.specs.declared.Key.{Key}
-use Rattle.transport.specs.declared.control.Announcement.{Announcement}
-use Rattle.transport.specs.declared.control.Status.{Status}
+use Rattle.transport.specs.declared.announcement.Announcement.{Announcement}
+use Rattle.transport.specs.declared.eoms.Status.{Status}
 use Rattle.transport.specs.declared.control.Control.{Control}
 use Rattle.transport.specs.declared.control.Control.the-variants as control
 use Rattle.transport.specs.declared.segment.Segment.{Segment}
 use Rattle.transport.specs.declared.segment.DataFrame.{DataFrame}
 use Rattle.transport.specs.declared.segment.DataFrame.the-variants as dataframe
-use Rattle.transport.specs.Control.{keyOf, controlOf}
+use Rattle.transport.specs.Control.{controlOf}
+use Rattle.transport.specs.Heads.{keyOf}
 use Rattle.transport.specs.Segments.{dataAt, dataFrameOf}
 use Rattle.answer.specs.declared.Answer.{Answer}
 use Rattle.answer.specs.declared.Answer.the-variants.{Groups, Refused}

@@ -12,8 +12,8 @@ use Rattle.frame.specs.declared.refusal.Refusal.the-variants.{PgnForm, Announce
 use Rattle.transport.specs.declared.Key.{Key}
 use Rattle.transport.specs.declared.Kind.{Kind}
 use Rattle.transport.specs.declared.Kind.the-variants.{Rts, Bam}
-use Rattle.transport.specs.declared.control.Announcement.{Announcement}
-use Rattle.transport.specs.declared.response.Cts.{Cts}
+use Rattle.transport.specs.declared.announcement.Announcement.{Announcement}
+use Rattle.transport.specs.declared.cts.Cts.{Cts}
 use Rattle.session.specs.declared.Session.{Session}
 use Rattle.session.specs.declared.announcement.Form.{Form}
 use Rattle.session.specs.declared.announcement.Form.the-variants.{Good, Bad}

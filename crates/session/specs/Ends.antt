@@ -2,7 +2,7 @@
 use Prim.Native.Nat.{ℕ, _+_, _-_, _%_, _^_}
 use mathlib.Core.Bool.{Bool, _&&_}
 use lib.Dec.{eqb, leb}
-use Rattle.transport.specs.declared.control.Status.{Status}
+use Rattle.transport.specs.declared.eoms.Status.{Status}
 use Rattle.session.specs.declared.Session.{Session}
 
 -- every segment is in, and totals, PGN and assurance type (none) are as announced

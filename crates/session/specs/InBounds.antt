@@ -12,7 +12,7 @@ use Rattle.transport.specs.Kinds.{isRts}
 use Rattle.transport.specs.declared.Key.{Key}
 use Rattle.transport.specs.declared.Kind.{Kind}
 use Rattle.transport.specs.declared.Kind.the-variants.{Rts, Bam}
-use Rattle.transport.specs.declared.control.Announcement.{Announcement}
+use Rattle.transport.specs.declared.announcement.Announcement.{Announcement}
 use Rattle.progress.specs.declared.Announced.{Announced}
 use Rattle.progress.specs.declared.Progress.{Progress}
 use Rattle.progress.specs.Forward.{advancedBy}

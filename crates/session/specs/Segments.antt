@@ -3,7 +3,7 @@ use Prim.Native.Nat.{ℕ, _+_, _-_, _*_, min}
 use mathlib.Core.Bool.{cond, _||_}
 use lib.Dec.{eqb, ltb}
 use Rattle.frame.specs.declared.refusal.Refusal.the-variants.{AlreadyTaken, OutOfSequence, SegmentCut}
-use Rattle.transport.specs.declared.response.Cts.{Cts}
+use Rattle.transport.specs.declared.cts.Cts.{Cts}
 use Rattle.progress.specs.declared.Announced.{Announced}
 use Rattle.progress.specs.Forward.{nextCount}
 use Rattle.session.specs.declared.Session.{Session}

@@ -18,9 +18,9 @@ use progress::Progress;
 use progress::grant::grant;
 use transport::Key;
 use transport::Kind;
-use transport::control::Announcement;
+use transport::announcement::Announcement;
+use transport::cts::Cts;
 use transport::is_rts;
-use transport::response::Cts;
 
 // The numbers of an announcement, judged.
 pub enum Form {

@@ -8,7 +8,7 @@ use answer::End;
 use frame::refusal::Refusal;
 
 // Whether a session has been silent from its mark to the reading for at least the limit.
-fn is_idle(limit: u32, mark: u32, reading: u32) -> bool
+pub fn is_idle(limit: u32, mark: u32, reading: u32) -> bool
     ensures { λ r. ⌜ r ≡ isIdle limit mark reading ⌝ }
 {
     limit <= std::num::wrapping_sub_u32(reading, mark)

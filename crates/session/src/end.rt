@@ -10,7 +10,7 @@ use answer::Answer;
 use answer::Ending;
 use answer::Message;
 use frame::refusal::Refusal;
-use transport::control::Status;
+use transport::eoms::Status;
 
 // A session that a refusal ends.
 pub fn ending_of(s: Session, n: Refusal) -> Ending

@@ -19,7 +19,7 @@ use progress::forward::is_cts_due;
 use progress::forward::minus;
 use progress::forward::next_count;
 use progress::grant::least;
-use transport::response::Cts;
+use transport::cts::Cts;
 use transport::segment::Segment;
 
 pub enum Judged {

@@ -6,7 +6,7 @@ use answer::Taken;
 use text::Wrote;
 use text::line::write_plain;
 use transport::Key;
-use transport::response::Cts;
+use transport::cts::Cts;
 
 // A BAM was accepted.
 pub fn write_opened(out: &mut [u8], at: usize, key: Key) -> Wrote

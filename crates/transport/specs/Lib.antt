@@ -1,6 +1,12 @@
 pub mod Kinds
-pub mod Control
+pub mod Heads
+pub mod Announcements
+pub mod Cts
 pub mod Segments
+pub mod Eoms
+pub mod Eoma
+pub mod Aborts
+pub mod Control
 pub mod Responses
 pub mod Reasons
 pub mod ReadBack

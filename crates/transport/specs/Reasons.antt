@@ -5,11 +5,11 @@ use lib.Dec.{eqb}
 use Rattle.frame.specs.Refusals.{numberOf}
 use Rattle.frame.specs.declared.refusal.Refusal.{Refusal}
 
--- 12: the size exceeds what we have; 15: no further session; 19: bad segment number; 22: time-out; for every other the
--- table has no line of that meaning
+-- 12: the size exceeds what we have; 15: no further session; 19 and 27: bad segment number; 22: time-out; for every other
+-- the table has no line of that meaning
 unfoldable pub reasonOf : ℕ → ℕ
 reasonOf number =
-    cond (eqb number 12) 9 (cond (eqb number 15) 1 (cond (eqb number 19) 7 (cond (eqb number 22) 3 250)))
+    cond (eqb number 12) 9 (cond (eqb number 15) 1 (cond (eqb number 19) 7 (cond (eqb number 22) 3 (cond (eqb number 27) 7 250))))
 
 abbrev pub wireReason : Refusal → ℕ
 wireReason r = reasonOf (numberOf r)

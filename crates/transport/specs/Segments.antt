@@ -1,16 +1,19 @@
--- Data frames read: 01, "Transfer frames"; 001, Figures 37 and 38.
+-- Data frames: 01, "Transfer frames"; 001, Figures 37 and 38.
 use Prim.Native.Nat.{ℕ, _+_, _-_, _%_, _≤_, _<_}
 use mathlib.Core.Bool.{cond}
-use mathlib.Core.List.{List}
+use mathlib.Core.List.{List, [], _∷_, _++_}
 use lib.Dec.{ltb}
-use lib.ListN.{length, getD, drop}
-use Rattle.frame.specs.Octets.{low24}
+use lib.ListN.{length, getD, drop, replicate}
+use Rattle.frame.specs.Lengths.{frameLength}
+use Rattle.frame.specs.Octets.{low3, low24}
 use Rattle.frame.specs.declared.refusal.Refusal.the-variants.{TransferLength}
+use Rattle.transport.specs.declared.Key.{Key}
 use Rattle.transport.specs.declared.segment.Segment.{Segment}
 use Rattle.transport.specs.declared.segment.DataFrame.{DataFrame}
 use Rattle.transport.specs.declared.segment.DataFrame.the-variants as dataframe
+use Rattle.transport.specs.Heads.{head}
 
--- byte 1: the format indicator in the low 4 bits (the session number above it is Control's sessionAt)
+-- byte 1: the format indicator in the low 4 bits (the session number above it is sessionAt of Heads)
 abbrev pub formatAt : List ℕ → ℕ
 formatAt d = getD d 0 0 % 16
 
@@ -32,3 +35,15 @@ dataFrameOf d = cond (ltb (length d) 5) (dataframe.Refused TransferLength) (data
 abbrev pub Fits : List ℕ → DataFrame → Type 0
 Fits d (dataframe.Segment sg) = (sg .number .0 < 16777216) × (4 + sg .room ≤ length d)
 Fits d (dataframe.Refused n) = Unit {0}
+
+-- ---- written: format indicator 0, the number, the data, then AA hex to the next length that CAN FD has (6.3.3.2)
+
+abbrev pub frontOf : Key → ℕ → List ℕ
+frontOf k n = head 0 k ∷ low3 n []
+
+-- what fills up a frame of so many bytes
+abbrev pub filler : ℕ → List ℕ
+filler need = replicate (frameLength need - need) 170
+
+unfoldable pub segmentBytes : Key → ℕ → List ℕ → List ℕ
+segmentBytes k n d = frontOf k n ++ (d ++ filler (4 + length d))

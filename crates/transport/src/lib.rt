@@ -1,9 +1,14 @@
 // Transfer frames: FD.TP.CM and FD.TP.DT, read and written (01, "Transfer frames").
 ghost use mathlib.Core.Path.{_≡_};
-ghost use lib.ListN.{getD};
 ghost use Rattle.transport.specs.Kinds.{isRts};
 
+pub mod abort;
+pub mod announcement;
 pub mod control;
+pub mod cts;
+pub mod eoma;
+pub mod eoms;
+pub mod head;
 pub mod reason;
 pub mod response;
 pub mod segment;
@@ -31,14 +36,4 @@ pub fn is_rts(kind: Kind) -> bool
         Kind::Rts => true,
         Kind::Bam => false,
     }
-}
-
-// The first byte, 0 where there is none.
-fn first(bytes: &[u8]) -> u8
-    ensures { λ r. ⌜ r ≡ getD (now (bytes .entry)) 0 0 ⌝ }
-{
-    if bytes.len() == 0 {
-        return 0;
-    }
-    bytes[0]
 }

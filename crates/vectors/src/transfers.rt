@@ -10,14 +10,15 @@ use session::announcement;
 use session::announcement::Form;
 use transport::Key;
 use transport::Kind;
+use transport::abort::Abort;
+use transport::announcement::Announcement;
 use transport::control;
-use transport::control::Announcement;
 use transport::control::Control;
-use transport::control::Status;
+use transport::cts::Cts;
+use transport::eoma::Eoma;
+use transport::eoms::Status;
+use transport::head;
 use transport::response;
-use transport::response::Abort;
-use transport::response::Cts;
-use transport::response::Eoma;
 use transport::response::Response;
 use transport::segment;
 use transport::segment::DataFrame;
@@ -60,7 +61,7 @@ fn control_frame(name: &[u8], bytes: &[u8]) {
         sa: Address(0),
         da: Address(33),
     };
-    let key = control::key_of(route, bytes);
+    let key = head::key_of(route, bytes);
     show::text(b" session");
     show::number(key.session.0 as u64);
     match control::read_control(bytes) {

@@ -9,8 +9,10 @@ use native.Mathlib.Omega.{arith}
 use borrow.Author.Tests.{not-false}
 use Rattle.laws.specs.Choice.{then, else}
 use Rattle.packing.specs.declared.Packed.the-variants.{Frame}
-use Rattle.packing.specs.Packing.{body, padding, needed, frameLength, pgnsOk, requestFits, packed}
-use Rattle.packing.specs.Shapes.{Met, request-met, capped-low, frame-bounds, padded}
+use Rattle.packing.specs.Packing.{body, padding, needed, pgnsOk, requestFits, packed}
+use Rattle.frame.specs.Lengths.{frameLength}
+use Rattle.packing.specs.Shapes.{Met, request-met, capped-low, padded}
+use Rattle.frame.specs.LengthLaws.{frame-bounds}
 use borrow.Author.Needs.{needs}
 use Rattle.packing.proofs.pack.Statement.{statement}
 use Rattle.packing.proofs.pack.Tie as tie

@@ -2,7 +2,7 @@ use mathlib.Core.Path.{ap, _∙_}
 use denote.Ref.{now}
 use Rattle.transport.specs.declared.Key.{Key}
 use Rattle.transport.specs.declared.control.Control.{Control}
-use Rattle.transport.specs.Control.{keyOf}
+use Rattle.transport.specs.Heads.{keyOf}
 use Rattle.receiver.specs.Calls.{announceStep, statusStep, abortStep, onControl, controlStep}
 use Rattle.engine.proofs.Cases.{by-case}
 use Rattle.record_bytes.specs.Layout.{recordAt}

@@ -2,7 +2,7 @@ use mathlib.Core.Path.{ap, subst, _∙_}
 use denote.Ref.{now}
 use Rattle.transport.specs.declared.Key.{Key}
 use Rattle.transport.specs.declared.segment.DataFrame.{DataFrame}
-use Rattle.transport.specs.Control.{keyOf}
+use Rattle.transport.specs.Heads.{keyOf}
 use Rattle.transport.specs.Segments.{Fits}
 use Rattle.receiver.specs.Calls.{segmentStep, onData}
 use Rattle.record_bytes.specs.Layout.{recordAt}

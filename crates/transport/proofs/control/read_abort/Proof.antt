@@ -1,8 +1,8 @@
 use lib.Dec.{eqb}
-use Rattle.transport.specs.Control.{roleAt}
-use mathlib.Core.Path.{refl, ap}
+use mathlib.Core.Path.{refl, sym, ap, _∙_}
 use borrow.Author.Tests.{eq-eqb, ne-eqb}
 use Rattle.laws.specs.Choice.{then, else}
+use Rattle.transport.specs.Aborts.{roleAt}
 use Rattle.transport.specs.declared.control.Control.the-variants.{Abort}
 use borrow.Author.Needs.{needs}
 use Rattle.transport.proofs.control.read_abort.Statement.{statement}
@@ -10,20 +10,19 @@ use Rattle.transport.proofs.control.read_abort.Tie as tie
 use Rattle.transport.proofs.control.read_abort.Reads as reads
 use Rattle.transport.proofs.control.read_abort.Lts as lts
 use Rattle.frame.proofs.octet.low24_at.Reads as low24-at-reads
+use Rattle.transport.proofs.abort.role_in.Reads as role-in-reads
 
-shared-slice-read-if1 : tie.Need-shared-slice-read-if1
-shared-slice-read-if1 c = search needs
+role-in-requires : tie.Need-role-in-requires
+role-in-requires c κs = search needs
 
 low24-at-requires : tie.Need-low24-at-requires
 low24-at-requires c κs = search needs
 
 returns : tie.Need-returns
-returns c =
-    then (eqb (roleAt (c .before .before .before .before .args .bytes .now)) 0) _ _ _ (eq-eqb _ 0 (c .before .if1 .taken)) (ap Abort (c .low24-at .ensures .0))
+returns c = then (eqb (roleAt (c .before .before .before .before .args .bytes .now)) 0) _ _ _ (eq-eqb _ 0 (sym (c .before .before .role-in .ensures) ∙ c .before .if1 .taken)) (ap Abort (c .low24-at .ensures .0))
 
 returns-2 : tie.Need-returns-2
-returns-2 c =
-    else (eqb (roleAt (c .before .before .before .args .bytes .now)) 0) _ _ _ (ne-eqb _ 0 (c .if1 .left)) refl
+returns-2 c = else (eqb (roleAt (c .before .before .before .args .bytes .now)) 0) _ _ _ (ne-eqb _ 0 (λ e. c .if1 .left (c .before .role-in .ensures ∙ e))) refl
 
 pub read-abort-spec : {M : Type 1} → statement M
-read-abort-spec = tie.close (tie.spec shared-slice-read-if1 low24-at-requires returns returns-2)
+read-abort-spec = tie.close (tie.spec role-in-requires low24-at-requires returns returns-2)

@@ -1,33 +1,25 @@
 use Prim.Native.Nat.{ℕ}
 use mathlib.Core.Path.{_≡_, refl, sym, ap, _∙_}
-use mathlib.Core.Bool.{cond, not, _&&_}
+use mathlib.Core.Bool.{not, _&&_}
 use mathlib.Core.List.{List}
 use lib.Dec.{eqb}
 use lib.ListN.{length}
 use borrow.Author.Tests.{eq-eqb, ne-eqb}
 use Rattle.laws.specs.Choice.{then, else, and-stop}
 use Rattle.frame.specs.declared.refusal.Refusal.the-variants.{NotReceivers}
-use Rattle.transport.specs.declared.Kind.the-variants.{Rts, Bam}
 use Rattle.transport.specs.declared.control.Control.{Control}
-use Rattle.transport.specs.declared.control.Control.the-variants.{Announce, EndOfMessage, Abort, Refused}
-use Rattle.transport.specs.Control.{controlAt, announcementAt, statusAt, roleAt, abortPgnAt, controlOf}
+use Rattle.transport.specs.declared.control.Control.the-variants.{Announce, EndOfMessage, Refused}
+use Rattle.transport.specs.Control.{byControl, controlOf}
+use Rattle.transport.specs.Heads.{controlAt}
+use Rattle.transport.specs.Aborts.{roleAt}
 use borrow.Author.Needs.{needs}
 use Rattle.transport.proofs.control.read_control.Statement.{statement}
 use Rattle.transport.proofs.control.read_control.Tie as tie
 use Rattle.transport.proofs.control.read_control.Reads as reads
 use Rattle.transport.proofs.control.read_control.Lts as lts
 use Rattle.transport.proofs.control.read_abort.Reads as read-abort-reads
-use Rattle.transport.proofs.control.read_announcement.Reads as read-announcement-reads
-use Rattle.transport.proofs.control.read_status.Reads as read-status-reads
-
--- controlOf, for a frame of 12 bytes, by its control
-abbrev byControl : List ℕ → ℕ → Control
-byControl d n =
-    cond (eqb n 0) (Announce (announcementAt Rts d))
-    (cond (eqb n 4) (Announce (announcementAt Bam d))
-    (cond (eqb n 2) (EndOfMessage (statusAt d))
-    (cond (eqb n 15 && eqb (roleAt d) 0) (Abort (abortPgnAt d))
-    (Refused NotReceivers))))
+use Rattle.transport.proofs.announcement.read_announcement.Reads as read-announcement-reads
+use Rattle.transport.proofs.eoms.read_status.Reads as read-status-reads
 
 with-control : (d : List ℕ) (n : ℕ) (r : Control) → length d ≡ 12 → controlAt d ≡ n → r ≡ byControl d n → r ≡ controlOf d
 unfolding controlOf

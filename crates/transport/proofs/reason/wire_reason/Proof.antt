@@ -11,13 +11,14 @@ use Rattle.transport.proofs.reason.wire_reason.Reads as reads
 use Rattle.transport.proofs.reason.wire_reason.Lts as lts
 use Rattle.frame.proofs.refusal.number.Reads as number-reads
 
-other : (n : ℕ) → (n ≡ 12 → ⊥) → (n ≡ 15 → ⊥) → (n ≡ 19 → ⊥) → (n ≡ 22 → ⊥) → 250 ≡ reasonOf n
+other : (n : ℕ) → (n ≡ 12 → ⊥) → (n ≡ 15 → ⊥) → (n ≡ 19 → ⊥) → (n ≡ 22 → ⊥) → (n ≡ 27 → ⊥) → 250 ≡ reasonOf n
 unfolding reasonOf
-other n a b c d =
+other n a b c d e =
     else (eqb n 12) _ _ _ (ne-eqb n 12 a)
     (else (eqb n 15) _ _ _ (ne-eqb n 15 b)
     (else (eqb n 19) _ _ _ (ne-eqb n 19 c)
-    (else (eqb n 22) _ _ _ (ne-eqb n 22 d) refl)))
+    (else (eqb n 22) _ _ _ (ne-eqb n 22 d)
+    (else (eqb n 27) _ _ _ (ne-eqb n 27 e) refl))))
 
 number-requires : tie.Need-number-requires
 number-requires c κs = search needs
@@ -40,8 +41,12 @@ returns-4 c = ap reasonOf (sym (c .match .keys4) ∙ c .before .number .ensures)
 
 returns-5 : tie.Need-returns-5
 unfolding reasonOf
-returns-5 c = other _ (c .match .rest .0 .0 .0 .1) (c .match .rest .0 .0 .1) (c .match .rest .0 .1) (c .match .rest .1) ∙ ap reasonOf (c .before .number .ensures)
+returns-5 c = ap reasonOf (sym (c .match .keys5) ∙ c .before .number .ensures)
+
+returns-6 : tie.Need-returns-6
+unfolding reasonOf
+returns-6 c = other _ (c .match .rest .0 .0 .0 .0 .1) (c .match .rest .0 .0 .0 .1) (c .match .rest .0 .0 .1) (c .match .rest .0 .1) (c .match .rest .1) ∙ ap reasonOf (c .before .number .ensures)
 
 pub wire-reason-spec : {M : Type 1} → statement M
 wire-reason-spec =
-    tie.close (tie.spec number-requires returns returns-2 returns-3 returns-4 returns-5)
+    tie.close (tie.spec number-requires returns returns-2 returns-3 returns-4 returns-5 returns-6)

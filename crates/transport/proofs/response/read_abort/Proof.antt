@@ -1,29 +1,28 @@
-use mathlib.Core.Path.{refl}
+use lib.Dec.{eqb}
+use mathlib.Core.Path.{refl, sym, ap, _∙_}
 use borrow.Author.Tests.{eq-eqb, ne-eqb}
 use Rattle.laws.specs.Choice.{then, else}
+use Rattle.transport.specs.Aborts.{roleAt}
+use Rattle.transport.specs.declared.response.ResponseRead.the-variants.{Abort}
 use borrow.Author.Needs.{needs}
 use Rattle.transport.proofs.response.read_abort.Statement.{statement}
 use Rattle.transport.proofs.response.read_abort.Tie as tie
 use Rattle.transport.proofs.response.read_abort.Reads as reads
 use Rattle.transport.proofs.response.read_abort.Lts as lts
-use Rattle.frame.proofs.octet.low24_at.Reads as low24-at-reads
+use Rattle.transport.proofs.abort.read_abort.Reads as read-abort-reads
+use Rattle.transport.proofs.abort.role_in.Reads as role-in-reads
 
-shared-slice-read-if1 : tie.Need-shared-slice-read-if1
-shared-slice-read-if1 c = search needs
+role-in-requires : tie.Need-role-in-requires
+role-in-requires c κs = search needs
 
-shared-slice-read-t8 : tie.Need-shared-slice-read-t8
-shared-slice-read-t8 c = search needs
-
-low24-at-requires : tie.Need-low24-at-requires
-low24-at-requires c κs = search needs
+read-abort-requires : tie.Need-read-abort-requires
+read-abort-requires c κs = search needs
 
 returns : tie.Need-returns
-returns c = then _ _ _ _ (eq-eqb _ _ (c .before .before .if1 .taken)) (cc)
+returns c = then (eqb (roleAt (c .before .before .before .before .args .frame .now)) 1) _ _ _ (eq-eqb _ 1 (sym (c .before .before .role-in .ensures) ∙ c .before .if1 .taken)) (ap Abort (c .read-abort .ensures))
 
 returns-2 : tie.Need-returns-2
-returns-2 c = else _ _ _ _ (ne-eqb _ _ (c .if1 .left)) refl
+returns-2 c = else (eqb (roleAt (c .before .before .before .args .frame .now)) 1) _ _ _ (ne-eqb _ 1 (λ e. c .if1 .left (c .before .role-in .ensures ∙ e))) refl
 
 pub read-abort-spec : {M : Type 1} → statement M
-read-abort-spec =
-    tie.close
-    (tie.spec shared-slice-read-if1 shared-slice-read-t8 low24-at-requires returns returns-2)
+read-abort-spec = tie.close (tie.spec role-in-requires read-abort-requires returns returns-2)

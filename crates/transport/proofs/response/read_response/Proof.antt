@@ -8,21 +8,20 @@ use borrow.Author.Tests.{eq-eqb, ne-eqb}
 use Rattle.laws.specs.Choice.{then, else}
 use Rattle.frame.specs.declared.judge.Route.{Route}
 use Rattle.frame.specs.declared.refusal.Refusal.the-variants.{NotReceivers}
-use Rattle.transport.specs.Control.{controlAt}
+use Rattle.transport.specs.Heads.{controlAt, sessionKeyOf}
 use Rattle.transport.specs.declared.Key.{Key}
-use Rattle.transport.specs.declared.response.Response.the-variants.{Cts, Eoma}
 use Rattle.transport.specs.declared.response.ResponseRead.{ResponseRead}
-use Rattle.transport.specs.declared.response.ResponseRead.the-variants.{Response, Refused}
-use Rattle.transport.specs.Responses.{sessionKeyOf, byResponse, responseOf}
+use Rattle.transport.specs.declared.response.ResponseRead.the-variants.{Cts, Eoma, Refused}
+use Rattle.transport.specs.Responses.{byResponse, responseOf}
 use borrow.Author.Needs.{needs}
 use Rattle.transport.proofs.response.read_response.Statement.{statement}
 use Rattle.transport.proofs.response.read_response.Tie as tie
 use Rattle.transport.proofs.response.read_response.Reads as reads
 use Rattle.transport.proofs.response.read_response.Lts as lts
 use Rattle.transport.proofs.response.read_abort.Reads as read-abort-reads
-use Rattle.transport.proofs.response.read_cts.Reads as read-cts-reads
-use Rattle.transport.proofs.response.read_eoma.Reads as read-eoma-reads
-use Rattle.transport.proofs.response.session_key.Reads as session-key-reads
+use Rattle.transport.proofs.cts.read_cts.Reads as read-cts-reads
+use Rattle.transport.proofs.eoma.read_eoma.Reads as read-eoma-reads
+use Rattle.transport.proofs.head.session_key.Reads as session-key-reads
 
 with-control : (route : Route) (d : List ℕ) (k : Key) (n : ℕ) (r : ResponseRead) → length d ≡ 12 → k ≡ sessionKeyOf route d → controlAt d ≡ n → r ≡ byResponse k d n → r ≡ responseOf route d
 unfolding responseOf
@@ -59,13 +58,13 @@ returns-2 : tie.Need-returns-2
 returns-2 c =
     let at-session-key = c .before .before .before in
     let at-if1 = at-session-key .before in
-    with-control _ _ _ 1 _ (at-if1 .if1 .left) (at-session-key .session-key .ensures) (c .before .match .keys1) (ap (λ f. Response (Cts f)) (c .read-cts .ensures))
+    with-control _ _ _ 1 _ (at-if1 .if1 .left) (at-session-key .session-key .ensures) (c .before .match .keys1) (ap Cts (c .read-cts .ensures))
 
 returns-3 : tie.Need-returns-3
 returns-3 c =
     let at-session-key = c .before .before .before in
     let at-if1 = at-session-key .before in
-    with-control _ _ _ 3 _ (at-if1 .if1 .left) (at-session-key .session-key .ensures) (c .before .match .keys2) (ap (λ f. Response (Eoma f)) (c .read-eoma .ensures))
+    with-control _ _ _ 3 _ (at-if1 .if1 .left) (at-session-key .session-key .ensures) (c .before .match .keys2) (ap Eoma (c .read-eoma .ensures))
 
 returns-4 : tie.Need-returns-4
 returns-4 c = with-control _ _ _ 15 _ (c .before .before .before .before .if1 .left) (c .before .before .before .session-key .ensures) (c .before .match .keys3) (c .read-abort .ensures)

@@ -1,0 +1,5 @@
+pub mod Transfers
+pub mod Bounds
+pub mod Decisions
+pub mod Sends
+pub mod Laws
