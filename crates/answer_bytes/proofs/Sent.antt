@@ -13,8 +13,8 @@ use Rattle.answer.specs.declared.End.the-variants as end
 use Rattle.answer.specs.declared.sent.Sending.{Sending}
 use Rattle.answer.specs.declared.sent.Sending.the-variants as sending
 use Rattle.answer.specs.Answers.{answerSends, sendingOf}
-use Rattle.record_bytes.specs.Layout.{low4}
-use Rattle.record_bytes.specs.Written.{next-field}
+use Rattle.words.specs.Words.{low4}
+use Rattle.words.specs.Laws.{next-field}
 use Rattle.answer_bytes.specs.Places.{answerLength, sentPlace, identifierPlace, dataPlace, sentLength, dataLength}
 use Rattle.answer_bytes.specs.declared.Fields.{Fields}
 use Rattle.answer_bytes.specs.Sizes.{length-response, length-sent, length-answer}

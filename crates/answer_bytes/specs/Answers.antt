@@ -17,7 +17,8 @@ use Rattle.answer.specs.declared.sent.Sending.{Sending}
 use Rattle.answer.specs.declared.sent.Sending.the-variants as sending
 use Rattle.answer.specs.Answers.{answerSends, sendingOf}
 use Rattle.answer_bytes.specs.declared.Fields.{Fields}
-use Rattle.record_bytes.specs.Layout.{low4, kindByte}
+use Rattle.record_bytes.specs.Layout.{kindByte}
+use Rattle.words.specs.Words.{low4}
 use Rattle.answer_bytes.specs.Places.{sentLength}
 
 abbrev pub noKey : Key

@@ -30,11 +30,11 @@ use places::SENT_AT;
 use places::SENT_BYTES;
 use places::TOTAL_AT;
 use record_bytes::slot::kind_byte;
-use record_bytes::word::put_word;
 use transport::Key;
 use transport::cts::Cts;
 use transport::response;
 use transport::response::Response;
+use words::put_word;
 
 // The fields of an answer; those that it does not have are 0.
 pub struct Fields {

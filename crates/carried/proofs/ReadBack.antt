@@ -20,7 +20,7 @@ use Rattle.answer.specs.declared.End.the-variants as end
 use Rattle.answer.specs.declared.SlotEnd.{SlotEnd}
 use Rattle.session.specs.Fits.{AnswerFits}
 use Rattle.record_bytes.specs.Layout.{kindByte, kindAt}
-use Rattle.record_bytes.specs.RoundTrip.{fourBytes, low32-read-back}
+use Rattle.words.specs.Laws.{fourBytes, low32-read-back}
 use Rattle.transport.specs.declared.response.Response.{Response}
 use Rattle.transport.specs.Responses.{responseBytes, responseId}
 use Rattle.answer.specs.Answers.{answerNumber, answerSends, sendingOf, endSends, wireOf}

@@ -12,7 +12,8 @@ use Rattle.answer.specs.declared.Ending.{Ending}
 use Rattle.answer.specs.declared.Answer.{Answer}
 use Rattle.answer.specs.declared.Answer.the-variants.{Groups, Opened, Taken, Grant, HandedOver, Aborted, Ended, RefusedRts, Refused}
 use Rattle.isolation.specs.Replies.{Wire}
-use Rattle.record_bytes.specs.Layout.{low32, kindAt}
+use Rattle.record_bytes.specs.Layout.{kindAt}
+use Rattle.words.specs.Words.{low32}
 use Rattle.answer_bytes.specs.Places.{numberPlace, codePlace, saPlace, daPlace, sessionPlace, kindPlace, extraPlace, pgnPlace, totalPlace, segmentPlace, sentPlace, identifierPlace, dataPlace}
 
 abbrev pub keyIn : List ℕ → Key

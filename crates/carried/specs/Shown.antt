@@ -6,7 +6,8 @@ use mathlib.Core.List.{List, [], _∷_, _++_}
 use lib.Dec.{eqb}
 use lib.ListN.{getD, take, drop}
 use Rattle.receiver.specs.Calls.{Outcome}
-use Rattle.record_bytes.specs.Layout.{low32, kindAt, recordAt}
+use Rattle.record_bytes.specs.Layout.{kindAt, recordAt}
+use Rattle.words.specs.Words.{low32}
 use Rattle.answer_bytes.specs.Places.{answerLength, numberPlace, codePlace, kindPlace, pgnPlace}
 use Rattle.dwaebinam.specs.Calls.{framedIn}
 use Rattle.dwaebinam.specs.Reading.{readIn}

@@ -16,8 +16,8 @@ use Rattle.answer.specs.declared.Message as handed
 use Rattle.answer.specs.declared.Answer.the-variants.{HandedOver}
 use Rattle.answer.specs.Answers.{messageBytes}
 use Rattle.answer.specs.Lies.{message-lies}
-use Rattle.record_bytes.specs.Layout.{low32}
-use Rattle.record_bytes.specs.RoundTrip.{low32-read-back}
+use Rattle.words.specs.Words.{low32}
+use Rattle.words.specs.Laws.{low32-read-back}
 use Rattle.answer_bytes.specs.Places.{answerLength, codePlace, extraPlace, totalPlace}
 use Rattle.answer_bytes.specs.Answers.{fieldsBytes, answerBytes}
 use Rattle.answer_bytes.specs.Sizes.{length-answer}

@@ -9,7 +9,7 @@ use answer_bytes::places::EXTRA_AT;
 use answer_bytes::places::TOTAL_AT;
 use frame::ByteCount;
 use octets::copy;
-use record_bytes::word::word_at;
+use words::word_at;
 
 // The code of an answer that hands a message over.
 pub const HANDED_OVER: u8 = 5;

@@ -24,7 +24,8 @@ use Rattle.answer.specs.declared.Acceptance.the-variants as acceptance
 use Rattle.answer.specs.declared.SlotEnd.{SlotEnd}
 use Rattle.receiver.specs.Calls.{isReady, afterEnd, expiredState, expired, endOf, slotEnd, stays, readingKept, readingStep}
 use Rattle.record_bytes.specs.Places.{recordLength, headLength, slotLength, lastPlace, statePlace, slotPlace}
-use Rattle.record_bytes.specs.Layout.{low4, slotAt, piecesOf, slotsAt, recordAt}
+use Rattle.record_bytes.specs.Layout.{slotAt, piecesOf, slotsAt, recordAt}
+use Rattle.words.specs.Words.{low4}
 use Rattle.record_bytes.specs.Keeping.{kept, merged}
 use Rattle.record_bytes.specs.Kept.{Bytes, Good, kept-same, good-piece, put-elapsed}
 use Rattle.record_bytes.specs.Pieces.{piece-of}

@@ -13,7 +13,6 @@ use frame::judge::Route;
 use lent_record::search::slot_for;
 use lent_record::search::state_in;
 use record_bytes::places::LAST_AT;
-use record_bytes::word::word_at;
 use session::announcement;
 use session::end;
 use slots::Found;
@@ -23,6 +22,7 @@ use transport::control::Control;
 use transport::control::read_control;
 use transport::eoms::Status;
 use transport::head::key_of;
+use words::word_at;
 
 fn is_at(f: Found) -> bool
     ensures { λ r. ⌜ r ≡ isAt f ⌝ }

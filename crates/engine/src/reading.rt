@@ -20,12 +20,12 @@ use lent_record::search::slot_in;
 use record_bytes::places::LIMIT_AT;
 use record_bytes::put::put_last;
 use record_bytes::put::put_slot;
-use record_bytes::word::word_at;
 use session::Session;
 use session::State;
 use session::clock::at_reading;
 use slots::SLOTS;
 use slots::Slot;
+use words::word_at;
 
 // What a reading answers, and the ending of each slot.
 pub struct ReadingAnswer {

@@ -20,7 +20,6 @@ use frame::judge::Route;
 use lent_record::search::find_key;
 use lent_record::search::state_in;
 use record_bytes::places::LAST_AT;
-use record_bytes::word::word_at;
 use session::Change;
 use session::Session;
 use session::State;
@@ -32,6 +31,7 @@ use transport::head::key_of;
 use transport::segment::DataFrame;
 use transport::segment::Segment;
 use transport::segment::read_segment;
+use words::word_at;
 
 // The data due of segment n, to its place in slot i.
 fn store_due(store: &mut [u8], i: usize, s: Session, n: SegmentNumber, bytes: &[u8])

@@ -118,11 +118,11 @@ holds-inside k (x ∷ l) (suc i) e = suc-le-suc (holds-inside k l i e)
 -- ---- the searches
 
 pub find-some : (k : ℕ) (l : Slots) (i : ℕ) → keyPlace (keyAt k) l ≡ At i → (holds k (at l i) ≡ true) × (i < length l)
-find-some k l i e = let r = first-some (holdsKey (keyAt k)) l i e in (sym (holds-same k (at l i)) ∙ r .0, r .1)
+find-some k l i e = let r = first-some freeSlot (holdsKey (keyAt k)) l i e in (sym (holds-same k (at l i)) ∙ r .0, r .1)
 
 pub find-none : (k : ℕ) (l : Slots) → keyPlace (keyAt k) l ≡ Nothing → (i : ℕ) → holds k (at l i) ≡ false
 find-none k l e i =
-    or-false (holds k (at l i)) (λ t. clash (holds k (at l i)) t (sym (holds-same k (at l i)) ∙ from-none (holdsKey (keyAt k)) l 0 e i (holds-inside k l i t)))
+    or-false (holds k (at l i)) (λ t. clash (holds k (at l i)) t (sym (holds-same k (at l i)) ∙ from-none freeSlot (holdsKey (keyAt k)) l 0 e i (holds-inside k l i t)))
 
 -- no two slots hold one key
 abbrev pub Unique : Slots → Type 0

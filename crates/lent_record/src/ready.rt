@@ -18,9 +18,9 @@ use record_bytes::places::RECORD_BYTES;
 use record_bytes::places::SLOT_BYTES;
 use record_bytes::slot::codes_ok;
 use record_bytes::slot::session_at;
-use record_bytes::word::word_at;
 use slots::bounds::opening_ok;
 use slots::bounds::session_ok;
+use words::word_at;
 
 // The own address. What is lent are bytes: each is below 256.
 pub fn own_of(bytes: &[u8]) -> Address

@@ -20,8 +20,9 @@ use Rattle.slots.specs.Slots.{freeSlot, isFree}
 use Rattle.receiver.specs.Calls.{withSlot}
 use Rattle.record_bytes.specs.Places.{headLength, slotLength, announcedLength, progressLength, slotPlace, progressPlace}
 use Rattle.record_bytes.specs.Places.{limitPlace, lastPlace, statePlace, kindPlace, totalPlace, segmentsPlace, pgnPlace, nextPlace, grantedPlace, markPlace}
-use Rattle.record_bytes.specs.Layout.{low4, low32, kindByte, kindAt, progressBytes, sessionBytes, sessionAt, slotBytes, codesOk, slotAt, headBytes, pieces, piecesOf, codesAll, slotsAt, isRecord, recordAt}
-use Rattle.record_bytes.specs.Written.{both, same-byte, low4-bytes}
+use Rattle.record_bytes.specs.Layout.{kindByte, kindAt, progressBytes, sessionBytes, sessionAt, slotBytes, codesOk, slotAt, headBytes, pieces, piecesOf, codesAll, slotsAt, isRecord, recordAt}
+use Rattle.words.specs.Words.{low4, low32}
+use Rattle.words.specs.Laws.{both, same-byte, low4-bytes}
 use Rattle.record_bytes.specs.Pieces.{length-slot, length-pieces, piece-of, record-long, record-codes}
 use Rattle.record_bytes.specs.Keeping.{kept, merged, putIn}
 

@@ -5,6 +5,7 @@ use mathlib.Core.Bool.{Bool, true, false, cond, not, _&&_, _||_}
 use mathlib.Core.List.{List, [], _∷_, _++_, map}
 use lib.Dec.{eqb}
 use lib.ListN.{length, getD, take, drop, replicate}
+use Rattle.words.specs.Words.{low4, low32}
 use Rattle.transport.specs.declared.Kind.{Kind}
 use Rattle.transport.specs.declared.Kind.the-variants.{Rts, Bam}
 use Rattle.progress.specs.declared.Announced.{Announced}
@@ -16,14 +17,6 @@ use Rattle.session.specs.declared.State.the-variants.{Closed, Open}
 use Rattle.receiver.specs.declared.Receiver.{Receiver}
 use Rattle.record_bytes.specs.Places.{recordLength, headLength, slotLength, ownPlace, limitPlace, lastPlace}
 use Rattle.record_bytes.specs.Places.{statePlace, kindPlace, saPlace, daPlace, sessionPlace, totalPlace, segmentsPlace, maxPlace, pgnPlace, nextPlace, grantedPlace, markPlace}
-
--- four bytes, low byte first
-abbrev pub low32 : List ℕ → ℕ → ℕ
-low32 s at = getD s at 0 + 256 * getD s (at + 1) 0 + 65536 * getD s (at + 2) 0 + 16777216 * getD s (at + 3) 0
-
--- the four bytes of a number, low byte first, before more bytes
-abbrev pub low4 : ℕ → List ℕ → List ℕ
-low4 n rest = n % 256 ∷ n / 256 % 256 ∷ n / 65536 % 256 ∷ n / 16777216 % 256 ∷ rest
 
 -- ---- a slot
 

@@ -1,6 +1,5 @@
 pub mod Places
 pub mod Layout
-pub mod Written
 pub mod Pieces
 pub mod Keeping
 pub mod Kept

@@ -18,7 +18,8 @@ use Rattle.record_bytes.specs.Places.{recordLength, headLength, slotLeng
 use Rattle.record_bytes.specs.Layout.{sessionAt, stateBytes, slotBytes, slotAt, codesOk, headBytes, pieces, piecesOf, codesAll, isRecord, recordAt}
 use Rattle.record_bytes.specs.Pieces.{length-slot, length-pieces}
 use Rattle.record_bytes.specs.Keeping.{kept, merged, putIn}
-use Rattle.record_bytes.specs.RoundTrip.{fourBytes, low32-read-back, StateFits, SlotsFit, RecordFits, state-back, codes-state}
+use Rattle.record_bytes.specs.RoundTrip.{StateFits, SlotsFit, RecordFits, state-back, codes-state}
+use Rattle.words.specs.Laws.{fourBytes, low32-read-back}
 
 -- ---- a slot
 

@@ -17,28 +17,11 @@ use Rattle.slots.specs.declared.Slot.{Slot}
 use Rattle.session.specs.declared.State.{State}
 use Rattle.session.specs.declared.State.the-variants.{Closed, Open}
 use Rattle.receiver.specs.declared.Receiver.{Receiver}
+use Rattle.words.specs.Laws.{fourBytes, low32-read-back}
 use Rattle.record_bytes.specs.Places.{recordLength, headLength, slotLength, statePlace, kindPlace}
-use Rattle.record_bytes.specs.Layout.{low4, low32, kindByte, kindAt, announcedAt, progressAt, sessionBytes, sessionAt, stateBytes, slotBytes, codesOk, slotAt, headBytes, slotsBytes, recordBytes, pieces, piecesOf, codesAll, isRecord, recordAt}
+use Rattle.record_bytes.specs.Layout.{kindByte, kindAt, announcedAt, progressAt, sessionBytes, sessionAt, stateBytes, slotBytes, codesOk, slotAt, headBytes, slotsBytes, recordBytes, pieces, piecesOf, codesAll, isRecord, recordAt}
+use Rattle.words.specs.Words.{low4, low32}
 use Rattle.record_bytes.specs.Pieces.{length-slots, pieces-slots}
-
--- Four bytes hold a number below 2^32.
-abbrev pub fourBytes : ℕ → ℕ
-fourBytes n = low32 (low4 n []) 0
-
-four-digits : (n x y z p q r s : ℕ) → n ≡ 256 * x + p → x ≡ 256 * y + q → y ≡ 256 * z + r → s ≡ z → p + 256 * q + 65536 * r + 16777216 * s ≡ n
-four-digits n x y z p q r s e f g h = omega arith
-
-by-256 : (n : ℕ) → n ≡ 256 * (n / 256) + n % 256
-by-256 n = omega arith
-
-pub low32-read-back : (n : ℕ) → n < 4294967296 → fourBytes n ≡ n
-low32-read-back n h =
-    let a : n / 256 / 256 ≡ n / 65536 = omega arith in
-    let b : n / 65536 / 256 ≡ n / 16777216 = omega arith in
-    four-digits n (n / 256) (n / 65536) (n / 16777216) _ _ _ _ (by-256 n)
-    (by-256 (n / 256) ∙ ap (λ (y : ℕ). 256 * y + n / 256 % 256) a)
-    (by-256 (n / 65536) ∙ ap (λ (y : ℕ). 256 * y + n / 65536 % 256) b)
-    (omega arith)
 
 -- The numbers are no larger than their places. (Addresses, session number and MAX SGMTS are a byte as they are.)
 pub record SessionFits (s : Session) : Type 0 where

@@ -3,4 +3,3 @@ pub mod layout;
 pub mod places;
 pub mod put;
 pub mod slot;
-pub mod word;

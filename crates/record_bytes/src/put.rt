@@ -4,7 +4,8 @@ ghost use mathlib.Core.List.{[]};
 ghost use Prim.Native.Nat.{_+_, _<_, _≤_};
 ghost use lib.ListN.{length};
 ghost use lib.Seq.{paste};
-ghost use Rattle.record_bytes.specs.Layout.{low4, announcedBytes, progressBytes, slotBytes, headBytes};
+ghost use Rattle.record_bytes.specs.Layout.{announcedBytes, progressBytes, slotBytes, headBytes};
+ghost use Rattle.words.specs.Words.{low4};
 ghost use Rattle.record_bytes.specs.Places.{recordLength, headLength, slotLength, slotPlace, announcedLength, progressLength, progressPlace, lastPlace};
 use super::places::GRANTED_AT;
 use super::places::LAST_AT;
@@ -19,13 +20,13 @@ use super::places::SLOT_BYTES;
 use super::places::TOTAL_AT;
 use super::places::slot_place;
 use super::slot::kind_byte;
-use super::word::put_word;
 use octets::copy;
 use progress::Announced;
 use progress::Progress;
 use receiver::Receiver;
 use session::State;
 use slots::Slot;
+use words::put_word;
 
 // Writes what was announced, as an open slot begins; it begins at at.
 fn put_announced(out: &mut [u8], at: usize, a: Announced)

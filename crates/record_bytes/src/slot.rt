@@ -15,7 +15,6 @@ use super::places::SEGMENTS_AT;
 use super::places::SESSION_AT;
 use super::places::STATE_AT;
 use super::places::TOTAL_AT;
-use super::word::word_at;
 use frame::Address;
 use frame::ByteCount;
 use frame::SegmentNumber;
@@ -27,6 +26,7 @@ use session::State;
 use slots::Slot;
 use transport::Key;
 use transport::Kind;
+use words::word_at;
 
 // Whether a slot's first two bytes are codes: free, or open by RTS or by BAM.
 pub fn codes_ok(state: u8, kind: u8) -> bool

@@ -22,24 +22,24 @@ turn-none : (t : Bool) (r : Found) (j : ℕ) → cond t (At j) r ≡ Nothing →
 turn-none true r j e = ((cc), (cc))
 turn-none false r j e = (refl, e)
 
-module _ (p : Slot → Bool) where
-  from-some : (l : List Slot) (j i : ℕ) → firstAt p j l ≡ At i → (m : ℕ) × (i ≡ j + m) × (p (getD l m freeSlot) ≡ true) × (m < length l)
+module _ {A : Type 0} (d : A) (p : A → Bool) where
+  from-some : (l : List A) (j i : ℕ) → firstAt p j l ≡ At i → (m : ℕ) × (i ≡ j + m) × (p (getD l m d) ≡ true) × (m < length l)
   from-some [] j i e = let z : _≡_ {A = ℕ} 0 1 = cc in absurd (omega arith)
   from-some (x ∷ l) j i e = go (turn (p x) (firstAt p (j + 1) l) j i e) (from-some l (j + 1) i)
     where
       go : ((p x ≡ true) × (i ≡ j)) ⊎ (firstAt p (j + 1) l ≡ At i)
-          → (firstAt p (j + 1) l ≡ At i → (m : ℕ) × (i ≡ j + 1 + m) × (p (getD l m freeSlot) ≡ true) × (m < length l))
-          → (m : ℕ) × (i ≡ j + m) × (p (getD (x ∷ l) m freeSlot) ≡ true) × (m < length (x ∷ l))
+          → (firstAt p (j + 1) l ≡ At i → (m : ℕ) × (i ≡ j + 1 + m) × (p (getD l m d) ≡ true) × (m < length l))
+          → (m : ℕ) × (i ≡ j + m) × (p (getD (x ∷ l) m d) ≡ true) × (m < length (x ∷ l))
       go (inl q) ih = let e : i ≡ j = q .1 in (0, omega arith, q .0, omega arith)
       go (inr q) ih = let r = ih q in let e : i ≡ j + 1 + r .0 = r .1 in (suc (r .0), omega arith, r .2, suc-le-suc (r .3))
 
-  pub from-none : (l : List Slot) (j : ℕ) → firstAt p j l ≡ Nothing → (i : ℕ) → i < length l → p (getD l i freeSlot) ≡ false
+  pub from-none : (l : List A) (j : ℕ) → firstAt p j l ≡ Nothing → (i : ℕ) → i < length l → p (getD l i d) ≡ false
   from-none [] j e i h = absurd (omega arith)
   from-none (x ∷ l) j e zero h = turn-none (p x) (firstAt p (j + 1) l) j e .0
   from-none (x ∷ l) j e (suc i) h = from-none l (j + 1) (turn-none (p x) (firstAt p (j + 1) l) j e .1) i (omega arith)
 
   -- none before the one that was found passes
-  from-below : (l : List Slot) (j i : ℕ) → firstAt p j l ≡ At i → (n : ℕ) → j + n < i → p (getD l n freeSlot) ≡ false
+  from-below : (l : List A) (j i : ℕ) → firstAt p j l ≡ At i → (n : ℕ) → j + n < i → p (getD l n d) ≡ false
   from-below [] j i e n h = let z : _≡_ {A = ℕ} 0 1 = cc in absurd (omega arith)
   from-below (x ∷ l) j i e n h = go (p x) refl e (from-below l (j + 1) i) n h
     where
@@ -47,14 +47,14 @@ module _ (p : Slot → Bool) where
       first q = cc
 
       go : (t : Bool) → p x ≡ t → cond t (At j) (firstAt p (j + 1) l) ≡ At i
-          → (firstAt p (j + 1) l ≡ At i → (n : ℕ) → j + 1 + n < i → p (getD l n freeSlot) ≡ false)
-          → (n : ℕ) → j + n < i → p (getD (x ∷ l) n freeSlot) ≡ false
+          → (firstAt p (j + 1) l ≡ At i → (n : ℕ) → j + 1 + n < i → p (getD l n d) ≡ false)
+          → (n : ℕ) → j + n < i → p (getD (x ∷ l) n d) ≡ false
       go true f q ih n h = let z : j ≡ i = first q in absurd (omega arith)
       go false f q ih zero h = f
       go false f q ih (suc n) h = ih q n (omega arith)
 
-  -- the slot found passes the test
-  pub first-some : (l : List Slot) (i : ℕ) → firstAt p 0 l ≡ At i → (p (getD l i freeSlot) ≡ true) × (i < length l)
+  -- the one found passes the test
+  pub first-some : (l : List A) (i : ℕ) → firstAt p 0 l ≡ At i → (p (getD l i d) ≡ true) × (i < length l)
   first-some l i e =
       let r = from-some l 0 i e in
       let z : i ≡ r .0 = r .1 ∙ omega arith in
@@ -62,7 +62,7 @@ module _ (p : Slot → Bool) where
 
 -- the lowest free slot is free
 pub lowest-some : (l : List Slot) (i : ℕ) → firstFree l ≡ At i → (getD l i freeSlot .state ≡ Closed) × (i < length l)
-lowest-some l i e = let r = first-some isFree l i e in (free (getD l i freeSlot .state) (r .0), r .1)
+lowest-some l i e = let r = first-some freeSlot isFree l i e in (free (getD l i freeSlot .state) (r .0), r .1)
   where
     free : (x : State) → freeState x ≡ true → x ≡ Closed
     free Closed e = refl
@@ -70,8 +70,8 @@ lowest-some l i e = let r = first-some isFree l i e in (free (getD l i freeSlot 
 
 -- and every slot below it is open
 pub lowest-below : (l : List Slot) (i : ℕ) → firstFree l ≡ At i → (j : ℕ) → j < i → freeState (getD l j freeSlot .state) ≡ false
-lowest-below l i e j h = from-below isFree l 0 i e j (omega arith)
+lowest-below l i e j h = from-below freeSlot isFree l 0 i e j (omega arith)
 
 -- where none is found, none is free
 pub lowest-none : (l : List Slot) → firstFree l ≡ Nothing → (i : ℕ) → i < length l → freeState (getD l i freeSlot .state) ≡ false
-lowest-none l e i h = from-none isFree l 0 e i h
+lowest-none l e i h = from-none freeSlot isFree l 0 e i h

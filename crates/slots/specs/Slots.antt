@@ -30,8 +30,8 @@ stateHolds k (Open s) = sameKey (s .announced .key) k
 abbrev pub holdsKey : Key → Slot → Bool
 holdsKey k s = stateHolds k (s .state)
 
--- the number of the first slot that passes the test, where the first of the list is slot i
-abbrev pub firstAt : (Slot → Bool) → ℕ → List Slot → Found
+-- the number of the first that passes the test, where the first of the list is number i
+abbrev pub firstAt : {A : Type 0} → (A → Bool) → ℕ → List A → Found
 firstAt test i [] = Nothing
 firstAt test i (s ∷ ss) = cond (test s) (At i) (firstAt test (i + 1) ss)
 

@@ -1,5 +1,5 @@
 -- What a call, a frame or a reading makes of one transfer, and what is answered: 02, E2. One that is not open is Closed.
-use Prim.Native.Nat.{ℕ, _+_, _-_}
+use Prim.Native.Nat.{ℕ, _+_, _-_, _<_}
 use mathlib.Core.Bool.{Bool, true, false, cond, not, _&&_, _||_}
 use lib.Dec.{eqb, ltb}
 use Rattle.frame.specs.Pgn.{pgnOk}
@@ -111,6 +111,23 @@ nextFrame t last =
     (cond (ltb (t .course .granted .0) (t .course .next .0)) (record { change = Stays; reply = reply.NothingDue })
     (moves (afterSegment t last) (reply.Segment (t .course .next))))
 
+-- ---- asked for it with a message of n bytes: 16, 26
+
+abbrev pub ifOpen : State → (Transfer → Step) → Step
+ifOpen Closed f = refused KeyNotOpen
+ifOpen (Open t) f = f t
+
+abbrev pub askedOf : Transfer → ℕ → ℕ → Step
+askedOf t n last = cond (not (eqb (t .offer .total .0) n)) (refused MessageLength) (nextFrame t last)
+
+unfoldable pub askedTo : State → ℕ → ℕ → Step
+askedTo x n last = ifOpen x (λ t. askedOf t n last)
+
+-- the number of the next segment is one of three bytes
+abbrev pub NextFits : State → Type 0
+NextFits Closed = Unit {0}
+NextFits (Open t) = t .course .next .0 < 16777216
+
 -- ---- a CTS
 
 -- one for segments replaces the grant before it, and no EOMS is owed
@@ -163,10 +180,6 @@ eomaOpen t f = cond (asSent t f) (ends (reply.Acknowledged (t .offer .key))) (re
 abbrev pub ofPgn : State → ℕ → State
 ofPgn Closed pgn = Closed
 ofPgn (Open t) pgn = cond (eqb (t .offer .pgn) pgn) (Open t) Closed
-
-abbrev pub ifOpen : State → (Transfer → Step) → Step
-ifOpen Closed f = refused KeyNotOpen
-ifOpen (Open t) f = f t
 
 abbrev pub ctsTo : State → CtsRead → ℕ → Step
 ctsTo x f last = ifOpen x (λ t. ctsOpen t f last)

@@ -3,8 +3,8 @@ use native.Mathlib.Omega.{arith}
 use mathlib.Core.Path.{refl}
 use mathlib.Core.List.{List, [], _∷_, _++_}
 use denote.Ref.{now}
-use Rattle.record_bytes.specs.Layout.{low4}
-use Rattle.record_bytes.specs.Written.{next-field}
+use Rattle.words.specs.Words.{low4}
+use Rattle.words.specs.Laws.{next-field}
 use Rattle.answer_bytes.specs.Places.{pgnPlace, totalPlace, segmentPlace}
 use Rattle.answer_bytes.specs.Answers.{fieldsBytes}
 use borrow.Author.Needs.{needs}

@@ -4,9 +4,10 @@ use mathlib.Core.Path.{ap, _∙_}
 use mathlib.Core.List.{List, [], _∷_, _++_}
 use lib.Seq.{paste}
 use denote.Ref.{now}
-use Rattle.record_bytes.specs.Written.{next-field}
+use Rattle.words.specs.Laws.{next-field}
 use Rattle.record_bytes.specs.Places.{totalPlace, segmentsPlace, maxPlace, pgnPlace}
-use Rattle.record_bytes.specs.Layout.{low4, kindByte}
+use Rattle.record_bytes.specs.Layout.{kindByte}
+use Rattle.words.specs.Words.{low4}
 use borrow.Author.Needs.{needs}
 use Rattle.record_bytes.proofs.put.put_announced.Statement.{statement}
 use Rattle.record_bytes.proofs.put.put_announced.Tie as tie

@@ -3,9 +3,10 @@ use native.Mathlib.Omega.{arith}
 use mathlib.Core.Path.{refl}
 use mathlib.Core.List.{List, [], _∷_, _++_}
 use denote.Ref.{now}
-use Rattle.record_bytes.specs.Written.{next-field}
+use Rattle.words.specs.Laws.{next-field}
 use Rattle.record_bytes.specs.Places.{ownPlace, limitPlace, lastPlace}
-use Rattle.record_bytes.specs.Layout.{low4, headBytes}
+use Rattle.record_bytes.specs.Layout.{headBytes}
+use Rattle.words.specs.Words.{low4}
 use borrow.Author.Needs.{needs}
 use Rattle.record_bytes.proofs.put.put_head.Statement.{statement}
 use Rattle.record_bytes.proofs.put.put_head.Tie as tie

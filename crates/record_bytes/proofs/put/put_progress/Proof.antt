@@ -5,8 +5,8 @@ use mathlib.Core.List.{[], _++_}
 use lib.Seq.{paste}
 use denote.Ref.{now}
 use Rattle.record_bytes.specs.Places.{nextPlace, grantedPlace, markPlace, progressPlace}
-use Rattle.record_bytes.specs.Layout.{low4}
-use Rattle.record_bytes.specs.Written.{next-field}
+use Rattle.words.specs.Words.{low4}
+use Rattle.words.specs.Laws.{next-field}
 use borrow.Author.Needs.{needs}
 use Rattle.record_bytes.proofs.put.put_progress.Statement.{statement}
 use Rattle.record_bytes.proofs.put.put_progress.Tie as tie

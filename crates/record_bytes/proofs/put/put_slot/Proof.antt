@@ -6,7 +6,7 @@ use denote.Ref.{now}
 use Rattle.session.specs.declared.State.{State}
 use Rattle.record_bytes.specs.Places.{slotLength, slotPlace, announcedLength, progressPlace}
 use Rattle.record_bytes.specs.Layout.{announcedBytes, progressBytes, sessionBytes, stateBytes}
-use Rattle.record_bytes.specs.Written.{next-field}
+use Rattle.words.specs.Laws.{next-field}
 use borrow.Author.Needs.{needs}
 use Rattle.record_bytes.proofs.put.put_slot.Statement.{statement}
 use Rattle.record_bytes.proofs.put.put_slot.Tie as tie

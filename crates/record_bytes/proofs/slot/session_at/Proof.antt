@@ -4,7 +4,7 @@ use Rattle.record_bytes.proofs.slot.session_at.Tie as tie
 use Rattle.record_bytes.proofs.slot.session_at.Reads as reads
 use Rattle.record_bytes.proofs.slot.session_at.Lts as lts
 use Rattle.record_bytes.proofs.slot.kind_at.Reads as kind-at-reads
-use Rattle.record_bytes.proofs.word.word_at.Reads as word-at-reads
+use Rattle.words.proofs.word_at.Reads as word-at-reads
 
 shared-slice-read-kind-at : tie.Need-shared-slice-read-kind-at
 shared-slice-read-kind-at c = search needs

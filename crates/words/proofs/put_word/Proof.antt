@@ -3,10 +3,10 @@ use mathlib.Core.List.{List, []}
 use Prim.Native.Nat.{ℕ}
 use lib.Seq.{paste}
 use denote.Ref.{now}
-use Rattle.record_bytes.specs.Written.{low4-bytes}
+use Rattle.words.specs.Laws.{low4-bytes}
 use borrow.Author.Needs.{needs}
-use Rattle.record_bytes.proofs.word.put_word.Statement.{statement}
-use Rattle.record_bytes.proofs.word.put_word.Tie as tie
+use Rattle.words.proofs.put_word.Statement.{statement}
+use Rattle.words.proofs.put_word.Tie as tie
 
 low-byte-requires : tie.Need-low-byte-requires
 low-byte-requires c κs = search needs

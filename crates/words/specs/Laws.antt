@@ -1,12 +1,12 @@
--- The bytes that the code wrote beside those of the layout, from the front, and fields that are put one after another.
-use Prim.Native.Nat.{ℕ, _+_, _/_, _%_, _≤_}
+-- Numbers put into bytes and read back, and fields that are put one after another.
+use Prim.Native.Nat.{ℕ, _+_, _*_, _/_, _%_, _≤_, _<_}
 use native.Mathlib.Omega.{arith}
 use mathlib.Core.Path.{_≡_, refl, sym, ap, ap₂, _∙_}
-use mathlib.Core.List.{List, _∷_, _++_, append-assoc}
+use mathlib.Core.List.{List, [], _∷_, _++_, append-assoc}
 use lib.ListN.{length, take, drop, length-append}
 use lib.Seq.{paste, take-paste, take-all}
 use Rattle.laws.specs.Windows.{drop-paste-after}
-use Rattle.record_bytes.specs.Layout.{low4}
+use Rattle.words.specs.Words.{low4, low32}
 
 module _ {xs ys : List ℕ} where
   pub both : {x y : ℕ} → x ≡ y → xs ≡ ys → x ∷ xs ≡ y ∷ ys
@@ -44,3 +44,23 @@ module _ (d : List ℕ) (at : ℕ) (x : List ℕ) (k : ℕ) (y : List ℕ) where
       ∙ ap (λ (l : List ℕ). l ++ drop (at + n + m) d)
       (append-assoc (take at d) (take n x) (take m y) ∙ ap (λ (l : List ℕ). take at d ++ l) both-whole)
       ∙ ap (λ (j : ℕ). take at d ++ take (n + m) (x ++ y) ++ drop j d) w
+
+-- ---- four bytes hold a number below 2^32
+
+abbrev pub fourBytes : ℕ → ℕ
+fourBytes n = low32 (low4 n []) 0
+
+four-digits : (n x y z p q r s : ℕ) → n ≡ 256 * x + p → x ≡ 256 * y + q → y ≡ 256 * z + r → s ≡ z → p + 256 * q + 65536 * r + 16777216 * s ≡ n
+four-digits n x y z p q r s e f g h = omega arith
+
+by-256 : (n : ℕ) → n ≡ 256 * (n / 256) + n % 256
+by-256 n = omega arith
+
+pub low32-read-back : (n : ℕ) → n < 4294967296 → fourBytes n ≡ n
+low32-read-back n h =
+    let a : n / 256 / 256 ≡ n / 65536 = omega arith in
+    let b : n / 65536 / 256 ≡ n / 16777216 = omega arith in
+    four-digits n (n / 256) (n / 65536) (n / 16777216) _ _ _ _ (by-256 n)
+    (by-256 (n / 256) ∙ ap (λ (y : ℕ). 256 * y + n / 256 % 256) a)
+    (by-256 (n / 65536) ∙ ap (λ (y : ℕ). 256 * y + n / 65536 % 256) b)
+    (omega arith)
