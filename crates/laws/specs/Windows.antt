@@ -7,6 +7,7 @@ use native.Mathlib.Nat.{suc-add, zero-add}
 use native.Mathlib.Omega.{arith}
 use lib.ListN.{length, take, drop, length-take, length-drop}
 use lib.Seq.{paste, length-paste, take-paste, drop-paste, take-all, drop-drop, take-append-le, drop-at, take-at, length-take-le, take-take, take-nil}
+use Rattle.laws.specs.Copy.{paste-part}
 
 pub drop-take : (a n : ℕ) (l : List ℕ) → drop a (take (a + n) l) ≡ take n (drop a l)
 drop-take zero n l = rw zero-add
@@ -34,3 +35,14 @@ module _ (d : List ℕ) (at : ℕ) (s : List ℕ) (n : ℕ) (inside : at ≤ len
 
   pub window-same : n ≤ length s → take n (drop at (paste d at s n)) ≡ take n s
   window-same h = rw drop-paste-at (take-at (take n s) (drop (at + n) d) n (length-take-le n s h))
+
+-- a window that holds all that is pasted
+pub window-in : (xs : List ℕ) (a k at : ℕ) (s : List ℕ) (n : ℕ) → at + n ≤ k → a + k ≤ length xs → n ≤ length s
+    → take k (drop a (paste xs (a + at) s n)) ≡ paste (take k (drop a xs)) at s n
+window-in xs a k at s n h g e =
+    let W : List ℕ = paste (take k (drop a xs)) at s n in
+    let w : length (take k (drop a xs)) ≡ k = length-take-le k (drop a xs) (simp length-drop (omega arith)) in
+    let l : length W ≡ k = length-paste (take k (drop a xs)) at s n (omega arith) e ∙ w in
+    ap (λ (x : List ℕ). take k (drop a x)) (sym (paste-part xs a k at s n h g))
+    ∙ ap (take k) (drop-at (take a xs) (W ++ drop k (drop a xs)) a (length-take-le a xs (omega arith)))
+    ∙ take-at W (drop k (drop a xs)) k l

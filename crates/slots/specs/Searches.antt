@@ -1,6 +1,6 @@
 -- What the searches over the slots find.
 use Prim.Native.Nat.{ℕ, zero, suc, _+_, _<_, suc-le-suc}
-use mathlib.Core.Path.{_≡_, refl, sym, ap, _∙_}
+use mathlib.Core.Path.{_≡_, refl, sym, ap, subst, _∙_}
 use mathlib.Core.Logic.{_⊎_, inl, inr}
 use mathlib.Core.Bool.{Bool, true, false, cond}
 use mathlib.Core.List.{List, [], _∷_}
@@ -12,7 +12,20 @@ use Rattle.session.specs.declared.State.the-variants.{Closed, Open}
 use Rattle.slots.specs.declared.Slot.{Slot}
 use Rattle.slots.specs.declared.Found.{Found}
 use Rattle.slots.specs.declared.Found.the-variants.{At, Nothing}
-use Rattle.slots.specs.Slots.{freeState, isFree, firstAt, firstFree, freeSlot}
+use Rattle.slots.specs.Slots.{Within, orElse, freeState, isFree, firstAt, firstFree, freeSlot}
+
+-- ---- by cases on what was found
+
+pub found-below : (f : Found) (i n : ℕ) → f ≡ At i → Within f n → i < n
+found-below f i n e w = subst (λ (x : Found). Within x n) e w
+
+pub or-first : (f x y : Found) (i : ℕ) → f ≡ x → f ≡ At i → At i ≡ orElse x y
+or-first f x y i e q = ap (λ (z : Found). orElse z y) (sym q ∙ e)
+
+pub or-second : (f x y z : Found) → f ≡ x → f ≡ Nothing → z ≡ y → z ≡ orElse x y
+or-second f x y z e q p = p ∙ ap (λ (w : Found). orElse w y) (sym q ∙ e)
+
+-- ---- the one found
 
 turn : (t : Bool) (r : Found) (j i : ℕ) → cond t (At j) r ≡ At i → ((t ≡ true) × (i ≡ j)) ⊎ (r ≡ At i)
 turn true r j i e = inl (refl, (cc))

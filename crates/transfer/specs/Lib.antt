@@ -3,3 +3,4 @@ pub mod Bounds
 pub mod Decisions
 pub mod Sends
 pub mod Laws
+pub mod Kept

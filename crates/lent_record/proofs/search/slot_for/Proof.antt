@@ -1,4 +1,4 @@
-use Rattle.lent_record.specs.Found.{found-below, or-first, or-second}
+use Rattle.slots.specs.Searches.{found-below, or-first, or-second}
 use borrow.Author.Needs.{needs}
 use Rattle.lent_record.proofs.search.slot_for.Statement.{statement}
 use Rattle.lent_record.proofs.search.slot_for.Tie as tie

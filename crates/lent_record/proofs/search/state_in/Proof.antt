@@ -1,6 +1,7 @@
 use denote.Ref.{now}
 use Rattle.record_bytes.specs.Layout.{slotsAt}
-use Rattle.lent_record.specs.Found.{found-below, state-found}
+use Rattle.lent_record.specs.Found.{state-found}
+use Rattle.slots.specs.Searches.{found-below}
 use borrow.Author.Needs.{needs}
 use Rattle.lent_record.proofs.search.state_in.Statement.{statement}
 use Rattle.lent_record.proofs.search.state_in.Tie as tie

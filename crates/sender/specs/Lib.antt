@@ -1,0 +1,6 @@
+pub mod Transfers
+pub mod Calls
+pub mod Clock
+pub mod Model
+pub mod Held
+pub mod Facts
