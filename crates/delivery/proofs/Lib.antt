@@ -6,3 +6,10 @@ pub mod Steps
 pub mod Arrival
 pub mod Queues
 pub mod Example
+pub mod Transfers
+pub mod Kept
+pub mod Sides
+pub mod Receiving
+pub mod Follows
+pub mod Whole
+pub mod Busy

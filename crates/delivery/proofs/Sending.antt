@@ -51,6 +51,13 @@ transferAt Rts s mark i g e = Open (openAt s mark i g e)
 transferAt Bam s mark i g false = Open (openAt s mark i g false)
 transferAt Bam s mark i g true = Closed
 
+-- its offer is the one announced
+pub offered : (κ : Kind) (s : Setting) (mark i g : ℕ) (e : Bool) (t : Transfer) → transferAt κ s mark i g e ≡ Open t → t .offer ≡ offer s
+unfolding transferAt openAt
+offered Rts s mark i g e t h = cc
+offered Bam s mark i g false t h = cc
+offered Bam s mark i g true t h = absurd (let z : _≡_ {A = ℕ} 0 1 = cc in omega arith)
+
 abbrev pub firstGrant : Kind → Setting → ℕ
 firstGrant Rts s = 0
 firstGrant Bam s = count s

@@ -1,2 +1,4 @@
 pub mod Link
 pub mod Arrival
+pub mod System
+pub mod Whole

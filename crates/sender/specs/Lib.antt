@@ -4,3 +4,5 @@ pub mod Clock
 pub mod Model
 pub mod Held
 pub mod Facts
+pub mod Carries
+pub mod CarriesClock

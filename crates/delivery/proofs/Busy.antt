@@ -1,0 +1,110 @@
+-- A run from record to record that comes to rest, with another transfer and another session open: the theorem is not about nothing.
+use Prim.Native.Nat.{ℕ, zero, suc}
+use native.Mathlib.Omega.{arith}
+use mathlib.Core.Logic.{inl}
+use mathlib.Core.Path.{_≡_, refl}
+use mathlib.Core.Bool.{true}
+use mathlib.Core.List.{List, [], _∷_}
+use lib.ListN.{replicate, length-replicate}
+use Rattle.frame.specs.Judge.{judged, byFormat}
+use Rattle.frame.specs.Lengths.{frameLength}
+use Rattle.transport.specs.Control.{controlOf}
+use Rattle.transport.specs.Heads.{idTo}
+use Rattle.transport.specs.Segments.{segmentBytes, dataFrameOf}
+use Rattle.transport.specs.Responses.{responseBytes, responseOf}
+use Rattle.progress.specs.Forward.{grantOf}
+use Rattle.session.specs.Announcements.{formOf}
+use Rattle.session.specs.Decisions.{segmentTo, statusTo}
+use Rattle.session.specs.Decisions as session
+use Rattle.session.specs.Segments.{dueOf, judgedOf}
+use Rattle.session.specs.Ends.{elapsed}
+use Rattle.slots.specs.Bounds.{slotsOk}
+use Rattle.transfer.specs.declared.State.the-variants.{Closed}
+use Rattle.transfer.specs.Transfers.{segmentsOf}
+use Rattle.transfer.specs.Decisions.{announcedTo, nextFrame, askedTo, ctsOpen, eomaOpen, hears}
+use Rattle.sender_bytes.specs.Layout.{Sender}
+use Rattle.sender.specs.Transfers as sender
+use Rattle.sender.specs.Model as model
+use Rattle.receiver.specs.declared.Receiver.{Receiver}
+use Rattle.receiver.specs.Bounds.{inBounds, openedWith}
+use Rattle.receiver.specs.Calls.{announceStep, statusStep, controlStep, segmentStep, frameAll, readingStep}
+use Rattle.isolation.specs.Standard.{fdLengths, isOneOf}
+use Rattle.isolation.specs.OwnFrames.{frameKey, bodyOf, taken, controlBody, dataBody}
+use Rattle.isolation.specs.Observe.{isOwn, isBody, lost, openIn, replyOf, saysOf}
+use Rattle.delivery.specs.Link.{Setting, bodyFor}
+use Rattle.delivery.specs.Arrival.{whole}
+use Rattle.delivery.specs.System as system
+use Rattle.delivery.specs.System.{System, Move, ask, takeForward, takeBackward, readSender, readReceiver, frameAside, announceAside, askAside, hearAside, asked, heard, takenForward, takenBackward, aside, start, step, run}
+use Rattle.delivery.specs.Whole.{Starts, Meets, AtRest}
+
+ramp : ℕ → List ℕ
+ramp zero = []
+ramp (suc n) = n ∷ ramp n
+
+-- 100 bytes from 80 hex, session 3, to 20 hex; PGN FEF1 hex
+abbrev setting : Setting
+setting = record { values = record { own = record { 0 = 32 }; limit = 1250 }; key = 524803; limit = 2500; pgn = 65265; message = ramp 100 }
+
+abbrev originator : Sender
+originator = record { own = record { 0 = 128 }; limit = 2500; last = 0; transfers = replicate 4 Closed }
+
+abbrev responder : Receiver
+responder = openedWith (record { 0 = 32 }) 1250 0
+
+abbrev before : System
+before = start setting originator responder (replicate 32768 0)
+
+starts : Starts setting originator responder (replicate 32768 0)
+unfolding sender.inBounds inBounds slotsOk model.announceStep announcedTo openIn ramp
+starts = record {
+  sender-ready = refl;
+  receiver-ready = refl;
+  eight = refl;
+  store = length-replicate {A = ℕ} 32768 0;
+  own = refl;
+  limit = refl;
+  values = refl;
+  apart = λ e. omega arith;
+  aimed = inl refl;
+  accepted = refl;
+  unknown = refl;
+}
+
+-- beside it a transfer to 21 hex, with its CTS and a segment, and a BAM from 81 hex
+abbrev moves : List Move
+moves =
+    announceAside (record { 0 = 33 }) (record { 0 = 1 }) 65265 50
+    ∷ frameAside 0x1C4DFF81 (0x54 ∷ 61 ∷ 0 ∷ 0 ∷ 2 ∷ 0 ∷ 0 ∷ 255 ∷ 0 ∷ 0xCA ∷ 0xFE ∷ 0 ∷ [])
+    ∷ takeForward
+    ∷ hearAside 0x1C4D8021 (0x11 ∷ 255 ∷ 255 ∷ 255 ∷ 1 ∷ 0 ∷ 0 ∷ 1 ∷ 0 ∷ 0xF1 ∷ 0xFE ∷ 0 ∷ [])
+    ∷ takeBackward
+    ∷ askAside (record { 0 = 33 }) (record { 0 = 1 }) 50
+    ∷ readSender 500
+    ∷ readReceiver 700
+    ∷ ask
+    ∷ ask
+    ∷ ask
+    ∷ takeForward
+    ∷ takeForward
+    ∷ takeForward
+    ∷ takeBackward
+    ∷ []
+
+abbrev after : System
+after = run setting before moves
+
+meets : Meets setting before moves
+unfolding sender.inBounds inBounds slotsOk model.announceStep model.askStep model.frameStep model.readingStep announcedTo nextFrame askedTo ctsOpen eomaOpen hears ramp
+    judged byFormat frameLength controlOf idTo segmentBytes dataFrameOf responseBytes responseOf grantOf formOf segmentTo statusTo session.announcedTo dueOf judgedOf elapsed segmentsOf
+    announceStep statusStep controlStep segmentStep frameAll readingStep replyOf saysOf asked heard system.taken takenForward takenBackward aside start step run
+    isOwn isBody lost openIn frameKey bodyOf taken isOneOf fdLengths controlBody dataBody bodyFor
+meets = (refl, (refl, ((λ e. refl), (refl, (tt, (refl, (refl, (refl, (tt, (tt, (tt, ((λ e. refl), ((λ e. refl), ((λ e. refl), (tt, tt)))))))))))))))
+
+abbrev Rests : Type 0
+Rests = AtRest setting after × (after .handed ≡ whole setting ∷ []) × (after .well ≡ true)
+
+rests : Rests
+unfolding sender.inBounds inBounds slotsOk model.announceStep model.askStep model.frameStep model.readingStep announcedTo nextFrame askedTo ctsOpen eomaOpen hears ramp
+    judged byFormat frameLength controlOf idTo segmentBytes dataFrameOf responseBytes responseOf grantOf formOf segmentTo statusTo session.announcedTo dueOf judgedOf elapsed segmentsOf
+    announceStep statusStep controlStep segmentStep frameAll readingStep replyOf saysOf asked heard system.taken takenForward takenBackward aside start step run
+rests = (record { forward = refl; backward = refl; nothing = tt }, refl, refl)

@@ -1,0 +1,175 @@
+-- What a call at the receiver does to the session of one key, whatever else the record holds: by the simulation that `isolation` proves.
+use Prim.Native.Nat.{ℕ, _<_}
+use mathlib.Core.Path.{_≡_, refl, sym, ap, _∙_}
+use mathlib.Core.Bool.{Bool, true, false, cond, not, _&&_, _||_}
+use mathlib.Core.Option.{Option, none, some}
+use mathlib.Core.List.{List, [], _∷_}
+use native.Mathlib.Omega.{arith}
+use lib.Dec.{eqb, leb}
+use lib.ListN.{length}
+use borrow.Author.Tests.{eq-eqb, lt-leb}
+use Rattle.laws.specs.Bools.{clash, not-both, neither-left}
+use Rattle.slots.specs.declared.Found.{Found}
+use Rattle.slots.specs.declared.Found.the-variants.{At, Nothing}
+use Rattle.slots.specs.Slots.{freeState, firstFree, isAt}
+use Rattle.slots.specs.Searches.{lowest-some}
+use Rattle.answer.specs.declared.Answer.{Answer}
+use Rattle.answer.specs.declared.Answer.the-variants as answer
+use Rattle.receiver.specs.declared.Receiver.{Receiver}
+use Rattle.receiver.specs.Calls.{frameAll, readingStep}
+use Rattle.isolation.specs.OwnFrames.{allKeys, frameKey, Body, bodyOf}
+use Rattle.isolation.specs.Replies.{Reply}
+use Rattle.isolation.specs.Rules as rules
+use Rattle.isolation.specs.Rules.{Values, Open, isOpen, isSilent, rule, judgedAt, nextState, output, outputs}
+use Rattle.isolation.specs.World.{frame, clock, lent, World, count, eightOthers, isAnnouncement, seesBody, sees, after, worldAfter}
+use Rattle.isolation.specs.Observe.{saysOf, replyOf, touches, isBody, isOwn, lost, openIn, strays, frameSeen, shows, recordAfter, storeAfter}
+use Rattle.isolation.proofs.Slots.{at, holds}
+use Rattle.isolation.proofs.Count.{count-same}
+use Rattle.isolation.proofs.Opened.{any, others, others-less, count-others}
+use Rattle.isolation.proofs.Many.{Sim, own-small, state-bounded, open-any}
+use Rattle.isolation.proofs.Run.{Keeps, keeps}
+use Rattle.delivery.specs.System.{handedFor, answerOf}
+
+-- the key's session after a call, with a world of rules that explains the record and the store again
+pub record Becomes (v : Values) (k t : ℕ) (x : Option Open) (r : Receiver) (m : List ℕ) : Type 0 where
+  pub world : World
+  pub sim : Sim v r m world
+  pub session : world k .session ≡ x
+  pub last : r .last ≡ t
+
+module _ (v : Values) (r : Receiver) (m : List ℕ) (w : World) (sim : Sim v r m w) (k : ℕ) where
+  -- a slot is free: not eight other keys are open
+  room : isAt (firstFree (r .slots)) ≡ true → eightOthers w k ≡ false
+  unfolding eightOthers
+  room e = go (firstFree (r .slots)) refl e
+    where
+      count-is : count (λ j. isOpen (w j .session) && not (eqb j k)) allKeys ≡ others k (r .slots)
+      count-is =
+          count-same (λ j. isOpen (w j .session) && not (eqb j k)) (λ j. any j (r .slots) && not (eqb j k)) allKeys (λ j _. rw (open-any v r m w sim j))
+          ∙ count-others allKeys k (r .slots) (sim .uniq) (λ i. state-bounded (v .own) (at (r .slots) i) (own-small (v .own) (v .limit) (sim .good)) (sim .ok i))
+
+      go : (f : Found) → firstFree (r .slots) ≡ f → isAt f ≡ true → eightOthers w k ≡ false
+      go Nothing e h = absurd (clash false h refl)
+      go (At i) e h =
+          let s = lowest-some (r .slots) i e in
+          let z : others k (r .slots) < length (r .slots) = others-less k (r .slots) i (s .1) (ap (λ (t : Bool). t || holds k (at (r .slots) i)) (ap freeState (s .0))) in
+          let y : length (r .slots) ≡ 8 = sim .eight in
+          ap (leb 8) count-is ∙ lt-leb 8 (others k (r .slots)) (omega arith)
+
+  module _ (id : ℕ) (d : List ℕ) where
+    kept : Keeps v r m w (lent (frame id d))
+    kept = keeps v r m w sim (lent (frame id d))
+
+    -- ---- a frame of the key
+
+    module _ (b : Body) (mine : frameKey id d ≡ k) (body : bodyOf (v .own) id d ≡ some b) (free : isAnnouncement b ≡ true → isAt (firstFree (r .slots)) ≡ true) where
+      told-no : (isAnnouncement b && eightOthers w k) ≡ false
+      told-no = go (isAnnouncement b) refl
+        where
+          go : (t : Bool) → isAnnouncement b ≡ t → (t && eightOthers w k) ≡ false
+          go true e = room (free e)
+          go false e = refl
+
+      sees-it : sees v w k (lent (frame id d)) ≡ rules.mine false b ∷ []
+      unfolding sees seesBody
+      sees-it = rw (body, mine, eq-eqb k k refl, told-no)
+
+      frame-says : rules.answer (answerOf (frameAll r id d m)) ∷ [] ≡ rules.answer (rule v k (w k .last) false (w k .session) b .1) ∷ []
+      unfolding shows frameSeen isOwn isBody outputs output
+      frame-says = rw (body, mine, eq-eqb k k refl, sees-it) at (kept .says k)
+
+      first : (a c : Reply) → rules.answer a ∷ [] ≡ rules.answer c ∷ [] → a ≡ c
+      first a c e = cc
+
+      pub frame-replies : answerOf (frameAll r id d m) ≡ rule v k (r .last) false (w k .session) b .1
+      frame-replies = first _ _ frame-says ∙ ap (λ (n : ℕ). rule v k n false (w k .session) b .1) (sim .last k)
+
+      pub frame-becomes : Becomes v k (r .last) (rule v k (r .last) false (w k .session) b .0) (frameAll r id d m .0 .next) (frameAll r id d m .1)
+      unfolding recordAfter storeAfter worldAfter after nextState
+      frame-becomes = record {
+        world = worldAfter v w (lent (frame id d));
+        sim = kept .next;
+        session = rw sees-it (ap (λ (n : ℕ). rule v k n false (w k .session) b .0) (sim .last k));
+        last = sym (kept .next .last k) ∙ rw sees-it (sim .last k);
+      }
+
+    -- ---- any other frame
+
+    module _ (other : isOwn v k id d ≡ false) where
+      unseen : sees v w k (lent (frame id d)) ≡ []
+      unfolding sees seesBody isOwn isBody
+      unseen = go (bodyOf (v .own) id d) other
+        where
+          go : (x : Option Body) → (isBody x && eqb (frameKey id d) k) ≡ false → seesBody w k (frameKey id d) x ≡ []
+          go none e = refl
+          go (some b) e = rw e
+
+      pub aside-becomes : Becomes v k (r .last) (w k .session) (frameAll r id d m .0 .next) (frameAll r id d m .1)
+      unfolding recordAfter storeAfter worldAfter after
+      aside-becomes = record {
+        world = worldAfter v w (lent (frame id d));
+        sim = kept .next;
+        session = rw unseen;
+        last = sym (kept .next .last k) ∙ rw unseen (sim .last k);
+      }
+
+      quiet : touches k (frameAll r id d m .0 .answer) ≡ false
+      unfolding shows frameSeen strays outputs
+      quiet = neither-left (touches k (frameAll r id d m .0 .answer)) (lost k r (frameAll r id d m .0 .next)) (go _ (rw (other, unseen) at (kept .says k)))
+        where
+          go : (t : Bool) → cond t (rules.stray (answerOf (frameAll r id d m)) ∷ []) [] ≡ [] → t ≡ false
+          go true e = absurd (let z : _≡_ {A = ℕ} 0 1 = cc in omega arith)
+          go false e = refl
+
+      hands-none : (a : Answer) (n : List ℕ) → touches k a ≡ false → handedFor k (saysOf a n) ≡ []
+      unfolding touches saysOf
+      hands-none (answer.Groups ρ) n e = refl
+      hands-none (answer.Opened κ) n e = refl
+      hands-none (answer.Taken t) n e = refl
+      hands-none (answer.Grant c) n e = refl
+      hands-none (answer.HandedOver x) n e = rw e
+      hands-none (answer.Aborted κ) n e = refl
+      hands-none (answer.Ended x) n e = refl
+      hands-none (answer.RefusedRts j) n e = refl
+      hands-none (answer.Refused n) m e = refl
+
+      pub aside-hands : handedFor k (answerOf (frameAll r id d m) .says) ≡ []
+      unfolding replyOf
+      aside-hands = hands-none (frameAll r id d m .0 .answer) (frameAll r id d m .1) quiet
+
+  -- ---- a reading
+
+  module _ (t : ℕ) where
+    read : Keeps v r m w (lent (clock t))
+    read = keeps v r m w sim (lent (clock t))
+
+    pub reading-becomes : Becomes v k t (judgedAt v t (w k .session)) (readingStep r t m .next) m
+    unfolding recordAfter storeAfter worldAfter sees after nextState
+    reading-becomes = record {
+      world = worldAfter v w (lent (clock t));
+      sim = read .next;
+      session = refl;
+      last = sym (read .next .last k);
+    }
+
+    -- a session that is not lost stays as it is
+    pub reading-stays : lost k r (readingStep r t m .next) ≡ false → judgedAt v t (w k .session) ≡ w k .session
+    unfolding lost judgedAt any isOpen
+    reading-stays e = go (w k .session) refl
+      where
+        after-it : isOpen (judgedAt v t (w k .session)) ≡ openIn k (readingStep r t m .next .slots)
+        after-it = ap isOpen (sym (reading-becomes .session)) ∙ open-any v (readingStep r t m .next) m (reading-becomes .world) (reading-becomes .sim) k
+
+        before : isOpen (w k .session) ≡ openIn k (r .slots)
+        before = open-any v r m w sim k
+
+        stays : (ρ : Open) (b : Bool) → not (isOpen (cond b none (some ρ))) ≡ false → cond b none (some ρ) ≡ some ρ
+        stays ρ true z = absurd (clash true refl z)
+        stays ρ false z = refl
+
+        go : (x : Option Open) → w k .session ≡ x → judgedAt v t x ≡ x
+        go none h = refl
+        go (some ρ) h =
+            let a : openIn k (r .slots) ≡ true = sym before ∙ ap isOpen h in
+            let b : not (openIn k (readingStep r t m .next .slots)) ≡ false = not-both (openIn k (r .slots)) _ e a in
+            stays ρ (isSilent v t ρ) (ap not (ap (λ (y : Option Open). isOpen (judgedAt v t y)) (sym h) ∙ after-it) ∙ b)
