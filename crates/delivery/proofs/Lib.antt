@@ -13,3 +13,4 @@ pub mod Receiving
 pub mod Follows
 pub mod Whole
 pub mod Busy
+pub mod Bounded

@@ -1,32 +1,30 @@
 -- What a call at the receiver does to the session of one key, whatever else the record holds: by the simulation that `isolation` proves.
-use Prim.Native.Nat.{ℕ, _<_}
+use Prim.Native.Nat.{ℕ}
 use mathlib.Core.Path.{_≡_, refl, sym, ap, _∙_}
-use mathlib.Core.Bool.{Bool, true, false, cond, not, _&&_, _||_}
+use mathlib.Core.Bool.{Bool, true, false, cond, not, _&&_}
 use mathlib.Core.Option.{Option, none, some}
 use mathlib.Core.List.{List, [], _∷_}
 use native.Mathlib.Omega.{arith}
-use lib.Dec.{eqb, leb}
-use lib.ListN.{length}
-use borrow.Author.Tests.{eq-eqb, lt-leb}
+use lib.Dec.{eqb}
+use borrow.Author.Tests.{eq-eqb}
 use Rattle.laws.specs.Bools.{clash, not-both, neither-left}
 use Rattle.slots.specs.declared.Found.{Found}
 use Rattle.slots.specs.declared.Found.the-variants.{At, Nothing}
-use Rattle.slots.specs.Slots.{freeState, firstFree, isAt}
+use Rattle.slots.specs.Slots.{firstFree, isAt}
 use Rattle.slots.specs.Searches.{lowest-some}
 use Rattle.answer.specs.declared.Answer.{Answer}
 use Rattle.answer.specs.declared.Answer.the-variants as answer
 use Rattle.receiver.specs.declared.Receiver.{Receiver}
 use Rattle.receiver.specs.Calls.{frameAll, readingStep}
-use Rattle.isolation.specs.OwnFrames.{allKeys, frameKey, Body, bodyOf}
+use Rattle.isolation.specs.OwnFrames.{frameKey, Body, bodyOf}
 use Rattle.isolation.specs.Replies.{Reply}
 use Rattle.isolation.specs.Rules as rules
 use Rattle.isolation.specs.Rules.{Values, Open, isOpen, isSilent, rule, judgedAt, nextState, output, outputs}
-use Rattle.isolation.specs.World.{frame, clock, lent, World, count, eightOthers, isAnnouncement, seesBody, sees, after, worldAfter}
+use Rattle.isolation.specs.World.{frame, clock, lent, World, eightOthers, isAnnouncement, seesBody, sees, after, worldAfter}
 use Rattle.isolation.specs.Observe.{saysOf, replyOf, touches, isBody, isOwn, lost, openIn, strays, frameSeen, shows, recordAfter, storeAfter}
 use Rattle.isolation.proofs.Slots.{at, holds}
-use Rattle.isolation.proofs.Count.{count-same}
-use Rattle.isolation.proofs.Opened.{any, others, others-less, count-others}
-use Rattle.isolation.proofs.Many.{Sim, own-small, state-bounded, open-any}
+use Rattle.isolation.proofs.Opened.{any}
+use Rattle.isolation.proofs.Many.{Sim, open-any, room}
 use Rattle.isolation.proofs.Run.{Keeps, keeps}
 use Rattle.delivery.specs.System.{handedFor, answerOf}
 
@@ -39,22 +37,12 @@ pub record Becomes (v : Values) (k t : ℕ) (x : Option Open) (r : Receiver) (m 
 
 module _ (v : Values) (r : Receiver) (m : List ℕ) (w : World) (sim : Sim v r m w) (k : ℕ) where
   -- a slot is free: not eight other keys are open
-  room : isAt (firstFree (r .slots)) ≡ true → eightOthers w k ≡ false
-  unfolding eightOthers
-  room e = go (firstFree (r .slots)) refl e
+  not-eight : isAt (firstFree (r .slots)) ≡ true → eightOthers w k ≡ false
+  not-eight e = go (firstFree (r .slots)) refl e
     where
-      count-is : count (λ j. isOpen (w j .session) && not (eqb j k)) allKeys ≡ others k (r .slots)
-      count-is =
-          count-same (λ j. isOpen (w j .session) && not (eqb j k)) (λ j. any j (r .slots) && not (eqb j k)) allKeys (λ j _. rw (open-any v r m w sim j))
-          ∙ count-others allKeys k (r .slots) (sim .uniq) (λ i. state-bounded (v .own) (at (r .slots) i) (own-small (v .own) (v .limit) (sim .good)) (sim .ok i))
-
       go : (f : Found) → firstFree (r .slots) ≡ f → isAt f ≡ true → eightOthers w k ≡ false
       go Nothing e h = absurd (clash false h refl)
-      go (At i) e h =
-          let s = lowest-some (r .slots) i e in
-          let z : others k (r .slots) < length (r .slots) = others-less k (r .slots) i (s .1) (ap (λ (t : Bool). t || holds k (at (r .slots) i)) (ap freeState (s .0))) in
-          let y : length (r .slots) ≡ 8 = sim .eight in
-          ap (leb 8) count-is ∙ lt-leb 8 (others k (r .slots)) (omega arith)
+      go (At i) e h = let s = lowest-some (r .slots) i e in room v r m w sim k i (s .1) (s .0)
 
   module _ (id : ℕ) (d : List ℕ) where
     kept : Keeps v r m w (lent (frame id d))
@@ -67,7 +55,7 @@ module _ (v : Values) (r : Receiver) (m : List ℕ) (w : World) (sim : Sim v r m
       told-no = go (isAnnouncement b) refl
         where
           go : (t : Bool) → isAnnouncement b ≡ t → (t && eightOthers w k) ≡ false
-          go true e = room (free e)
+          go true e = not-eight (free e)
           go false e = refl
 
       sees-it : sees v w k (lent (frame id d)) ≡ rules.mine false b ∷ []

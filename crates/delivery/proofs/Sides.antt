@@ -7,7 +7,7 @@ use mathlib.Core.List.{List, [], _∷_}
 use native.Mathlib.Omega.{arith}
 use lib.Dec.{eqb, leb}
 use lib.ListN.{length}
-use borrow.Author.Tests.{not-true, not-false}
+use borrow.Author.Tests.{eqb-false, not-true, not-false}
 use mathlib.Mathlib.Data.Bool.Basic.{and-elim-left, and-elim-right}
 use Rattle.laws.specs.Bools.{clash, not-both, both, by-test, passed, either-way}
 use Rattle.laws.specs.Choice.{each-of}
@@ -189,7 +189,7 @@ module _ (p : Sender) (e : inBounds p ≡ true) where
   nothing-done : (κ : Key) → Leaves κ p p
   nothing-done κ = record { own = refl; limit = refl; last = refl; ready = ready; same = refl }
 
-  ask-called : (da : Address) (session : SessionNumber) (n : ℕ)
+  pub ask-called : (da : Address) (session : SessionNumber) (n : ℕ)
       → Called (keyOf p da session) (askedTo (stateFor (keyOf p da session) p) n (p .last)) p (askStep p da session n)
   unfolding askStep
   ask-called da session n = rw e (record { reply = refl; acts = ask-acts p ready (keyOf p da session) n })
@@ -207,7 +207,7 @@ module _ (p : Sender) (e : inBounds p ≡ true) where
   pub ask-aside : (κ : Key) (da : Address) (session : SessionNumber) (n : ℕ) → sameKey (keyOf p da session) κ ≡ false → Leaves κ p (askStep p da session n .1)
   ask-aside κ da session n d = leaves-other (keyOf p da session) κ _ p _ (other κ (keyOf p da session) d) (ask-called da session n .acts)
 
-  announce-called : (da : Address) (session : SessionNumber) (pgn n : ℕ) → Called (keyOf p da session) (announces p (keyOf p da session) pgn n .step) p (announceStep p da session pgn n)
+  pub announce-called : (da : Address) (session : SessionNumber) (pgn n : ℕ) → Called (keyOf p da session) (announces p (keyOf p da session) pgn n .step) p (announceStep p da session pgn n)
   unfolding announceStep
   announce-called da session pgn n = rw e (record { reply = refl; acts = announce-acts p ready (keyOf p da session) pgn n })
 
@@ -299,11 +299,15 @@ routed own id n ρ e =
         each-of (eqb (identifierOf id .extended_data_page) 0 ∷ eqb (identifierOf id .data_page) 0 ∷ (eqb (identifierOf id .ps) (own .0) || eqb (identifierOf id .ps) 255)
         ∷ not (eqb (identifierOf id .sa .0) 254) ∷ not (eqb (identifierOf id .sa .0) 255) ∷ not (eqb (identifierOf id .sa .0) (own .0)) ∷ []) r .1 .1 .1 .1 .0
 
+-- from no broadcast
+pub routed-aimed : (own : Address) (id n : ℕ) (ρ : Route) → judged own id n ≡ verdict.Control ρ → ρ .sa .0 ≡ 255 → ⊥
+routed-aimed own id n ρ e = eqb-false (ρ .sa .0) 255 (routed own id n ρ e .node)
+
 pub routed-way : (own : Address) (id n : ℕ) (ρ : Route) → judged own id n ≡ verdict.Control ρ → ρ ≡ routeOf (identifierOf id)
 routed-way own id n ρ e = routed own id n ρ e .way
 
 module _ (p : Sender) (e : inBounds p ≡ true) (id : ℕ) (d : List ℕ) where
-  frame-is : frameStep p id d ≡ byVerdict (judged (p .own) id (length d)) p d
+  pub frame-is : frameStep p id d ≡ byVerdict (judged (p .own) id (length d)) p d
   unfolding frameStep
   frame-is = rw e
 

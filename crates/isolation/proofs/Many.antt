@@ -200,7 +200,7 @@ module _ (v : Values) (r : Receiver) (m : List ℕ) (w : World) (sim : Sim v r m
       ∙ count-others allKeys k (r .slots) (sim .uniq) (λ i. state-bounded (v .own) (at (r .slots) i) (own-small (v .own) (v .limit) (sim .good)) (sim .ok i)))
 
   -- a slot is free: not eight others
-  room : (k i : ℕ) → i < length (r .slots) → at (r .slots) i ≡ is.Closed → eightOthers w k ≡ false
+  pub room : (k i : ℕ) → i < length (r .slots) → at (r .slots) i ≡ is.Closed → eightOthers w k ≡ false
   room k i h e =
       let z : others k (r .slots) < length (r .slots) = others-less k (r .slots) i h (or-1 (freeState (at (r .slots) i)) (holds k (at (r .slots) i)) (ap freeState e)) in
       let y : length (r .slots) ≡ 8 = sim .eight in

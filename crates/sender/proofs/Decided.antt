@@ -1,6 +1,6 @@
 -- A transfer found, its step, and what was applied, beside what Calls.antt says.
 use Prim.Native.Nat.{ℕ}
-use mathlib.Core.Path.{_≡_, sym, ap, ap₂, _∙_}
+use mathlib.Core.Path.{_≡_, ap, ap₂, _∙_}
 use mathlib.Core.List.{List}
 use Rattle.slots.specs.declared.Found.{Found}
 use Rattle.transfer.specs.declared.State.{State}
@@ -10,7 +10,7 @@ use Rattle.transport.specs.declared.Key.{Key}
 use Rattle.sender_bytes.specs.Layout.{transfersAt}
 use Rattle.sender.specs.declared.Sent.{Sent}
 use Rattle.sender.specs.Transfers.{stateIn}
-use Rattle.sender.specs.Calls.{Decides, appliedIn, decidedIn, sentIn, givenIn, Called}
+use Rattle.sender.specs.Calls.{Decides, appliedIn, decidedIn, sentIn, givenIn}
 
 module _ (b : List ℕ) (D : Found → State → Step) where
   abbrev by : Found → State → Decides

@@ -9,7 +9,6 @@ use Rattle.answer.specs.declared.Acceptance.the-variants.{Accepted}
 use Rattle.answer.specs.declared.SlotEnd.{SlotEnd}
 use Rattle.words.specs.Words.{low4, low32}
 use Rattle.sender_bytes.specs.Places.{limitPlace, lastPlace}
-use Rattle.sender.specs.declared.reading.SenderReading.{SenderReading}
 use Rattle.sender.specs.Transfers.{readyIn}
 use Rattle.sender.specs.Clock.{oneElapsed, elapsedIn, readingIn}
 

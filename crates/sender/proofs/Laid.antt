@@ -1,7 +1,7 @@
 -- What the calls laid into the output, beside what Calls.antt says.
 use Prim.Native.Nat.{ℕ, _+_, _-_, _*_, _≤_}
 use native.Mathlib.Omega.{arith}
-use mathlib.Core.Path.{_≡_, refl, sym, ap, ap₂, _∙_}
+use mathlib.Core.Path.{_≡_, sym, ap, ap₂, _∙_}
 use mathlib.Core.Option.{Option, none, some}
 use mathlib.Core.List.{List, _++_}
 use lib.ListN.{length, take, drop}
@@ -13,7 +13,6 @@ use Rattle.answer.specs.Answers.{Wire}
 use Rattle.session.specs.Segments.{dueOf}
 use Rattle.transfer.specs.declared.Reply.{Reply}
 use Rattle.transfer.specs.Sends.{sends, segmentWire}
-use Rattle.sender.specs.declared.Sent.{Sent}
 use Rattle.sender.specs.Calls.{quietly, sentBy, sentIn}
 
 -- a control frame

@@ -12,7 +12,6 @@ use Rattle.frame.specs.declared.SessionNumber.{SessionNumber}
 use Rattle.frame.specs.declared.judge.Route.{Route}
 use Rattle.frame.specs.declared.judge.Verdict.{Verdict}
 use Rattle.frame.specs.declared.judge.Verdict.the-variants as verdict
-use Rattle.frame.specs.declared.refusal.Refusal.{Refusal}
 use Rattle.frame.specs.declared.refusal.Refusal.the-variants.{OutOfBounds, NotTaken}
 use Rattle.transport.specs.declared.Key.{Key}
 use Rattle.transport.specs.Heads.{sessionKeyOf}

@@ -1,8 +1,8 @@
 -- The bytes carry the record: a call on a record in bounds leaves the bytes of the record that the model gives.
 use Prim.Native.Nat.{ℕ, _<_}
 use native.Mathlib.Omega.{arith}
-use mathlib.Core.Path.{_≡_, refl, sym, ap, subst, _∙_}
-use mathlib.Core.Bool.{Bool, true, false, cond, not, _&&_, false≢true}
+use mathlib.Core.Path.{_≡_, refl, sym, ap, _∙_}
+use mathlib.Core.Bool.{Bool, true}
 use mathlib.Core.List.{List, [], _∷_}
 use lib.Dec.{eqb}
 use lib.ListN.{length, getD}
@@ -20,15 +20,14 @@ use Rattle.slots.specs.Slots.{Within, firstAt, orElse, isAt}
 use Rattle.slots.specs.Searches.{first-some}
 use Rattle.transfer.specs.declared.State.{State}
 use Rattle.transfer.specs.declared.State.the-variants.{Closed, Open}
-use Rattle.transfer.specs.declared.Change.{Change}
-use Rattle.transfer.specs.Kept.{Directed, ChangeFits, OpensFor, announce-fits, announce-opens-for, ask-fits, ask-opens-for, hear-fits, hear-opens-for}
-use Rattle.sender_bytes.specs.Places.{recordLength, lastPlace}
-use Rattle.sender_bytes.specs.Layout.{Sender, senderAt, ownAt, transfersAt}
+use Rattle.transfer.specs.Kept.{Directed, ChangeFits, announce-fits, announce-opens-for, ask-fits, ask-opens-for, hear-fits, hear-opens-for}
+use Rattle.sender_bytes.specs.Places.{lastPlace}
+use Rattle.sender_bytes.specs.Layout.{senderAt, transfersAt}
 use Rattle.sender_bytes.specs.Changed.{OwnOf, own-of, four-transfers, changed-at}
 use Rattle.words.specs.Words.{low32}
 use Rattle.sender.specs.Transfers.{isFree, holds, firstFree, keyPlace, slotFor, stateIn, inBounds, readyIn}
 use Rattle.sender.specs.Calls.{Decides, keyIn, announces, asks, hearsFrom, appliedIn, decidedIn}
-use Rattle.sender.specs.Model.{Stepped, stepped, refused, announceStep, askStep}
+use Rattle.sender.specs.Model.{Stepped, stepped, announceStep, askStep}
 use Rattle.sender.specs.Facts.{ready-long, ready-bounds, state-ok}
 
 -- what is found lies in the record

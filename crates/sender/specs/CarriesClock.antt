@@ -8,12 +8,11 @@ use lib.ListN.{length, getD}
 use Rattle.laws.specs.Choice.{then, else}
 use Rattle.answer.specs.declared.End.{End}
 use Rattle.answer.specs.declared.End.the-variants.{Stays, Ended}
-use Rattle.answer.specs.declared.SlotEnd.{SlotEnd}
 use Rattle.transfer.specs.declared.State.the-variants.{Closed}
 use Rattle.transfer.specs.Kept.{ChangeFits}
 use Rattle.sender_bytes.specs.Places.{recordLength}
 use Rattle.sender_bytes.specs.Layout.{Sender, senderAt, transfersAt, withTransfer}
-use Rattle.sender_bytes.specs.Changed.{OwnOf, length-changed, changed-at, put-last-at}
+use Rattle.sender_bytes.specs.Changed.{OwnOf, length-changed, changed-at, length-put-last, put-last-at}
 use Rattle.sender.specs.declared.reading.SenderReading.{SenderReading}
 use Rattle.sender.specs.Transfers.{inBounds, readyIn}
 use Rattle.sender.specs.Clock.{endOf, changeBy, oneElapsed, elapsedIn, readingIn}
@@ -80,6 +79,12 @@ module _ (b : List ℕ) (ready : readyIn b ≡ true) (t : ℕ) (small : t < 4294
 
   abbrev kept : Sender → Sender
   kept s = record { own = s .own; limit = s .limit; last = t; transfers = s .transfers }
+
+  pub reading-long : length (readingIn b t .1) ≡ recordLength
+  unfolding readingIn elapsedIn
+  reading-long =
+      ap (λ (x : SenderReading × List ℕ). length (x .1)) (sym (else (not (readyIn b)) _ _ _ (ap not ready) refl))
+      ∙ length-put-last b₄ t (one-long limit t b₃ long₃ 3 (omega arith)) small
 
   pub reading-carried : senderAt (readingIn b t .1) ≡ readingStep (senderAt b) t .1
   unfolding readingIn elapsedIn readingStep transfersAt

@@ -16,7 +16,7 @@ use Rattle.transfer.specs.declared.State.the-variants.{Closed, Open}
 use Rattle.transfer.specs.declared.Change.{Change}
 use Rattle.transfer.specs.declared.Change.the-variants.{Stays, Opens, Moves, Ends}
 use Rattle.transfer.specs.Decisions.{after}
-use Rattle.sender_bytes.specs.Places.{recordLength, headLength, transferLength, courseLength, transferPlace, coursePlace, ownPlace, limitPlace, lastPlace, statePlace}
+use Rattle.sender_bytes.specs.Places.{recordLength, transferLength, courseLength, transferPlace, coursePlace, ownPlace, limitPlace, lastPlace, statePlace}
 use Rattle.sender_bytes.specs.Places.{daPlace, sessionPlace, totalPlace, pgnPlace, completePlace, reportedPlace, owedPlace, nextPlace, grantedPlace, markPlace}
 
 -- ---- a transfer

@@ -1,20 +1,15 @@
 -- What the tests of a transfer say as facts.
-use Prim.Native.Nat.{ℕ, _+_, _/_, _≤_, _<_}
-use mathlib.Core.Path.{_≡_, refl}
-use mathlib.Core.Bool.{Bool, true, false, not, _&&_, _||_}
-use mathlib.Core.List.{List, [], _∷_}
+use Prim.Native.Nat.{ℕ, _+_, _≤_}
+use mathlib.Core.Path.{_≡_}
+use mathlib.Core.Bool.{true, false}
+use mathlib.Core.List.{[], _∷_}
 use native.Mathlib.Omega.{arith}
-use lib.Dec.{eqb, leb, ltb}
+use lib.Dec.{eqb, leb}
 use borrow.Author.Tests.{leb-true, ltb-false, eqb-false}
 use Rattle.laws.specs.Bools.{neither-left, neither-right}
 use Rattle.laws.specs.Choice.{each-of}
-use Rattle.frame.specs.Pgn.{pgnOk}
 use Rattle.transport.specs.declared.cts.Cts.{Cts}
-use Rattle.transfer.specs.declared.Offer.{Offer}
-use Rattle.transfer.specs.declared.Course.{Course}
-use Rattle.transfer.specs.declared.Transfer.{Transfer}
-use Rattle.transfer.specs.Transfers.{segmentsOf, offerSegments}
-use Rattle.transfer.specs.Bounds.{destinationOk, lengthOk, offerOk, courseOk, transferOk}
+use Rattle.transfer.specs.Bounds.{lengthOk}
 use Rattle.transfer.specs.Decisions.{badGrant}
 
 pub length-facts : (n : ℕ) → lengthOk n ≡ true → (1 ≤ n) × (n ≤ 4096)

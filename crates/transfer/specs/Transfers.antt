@@ -1,6 +1,6 @@
 -- A message on its way out: what is announced, and the frames that say so (02, E2; 001, 6.6.3.1 and Figures 31, 33 and 36).
 use Prim.Native.Nat.{ℕ, _+_, _/_, _%_}
-use mathlib.Core.Bool.{Bool, true, false, cond}
+use mathlib.Core.Bool.{false, cond}
 use lib.Dec.{eqb}
 use Rattle.frame.specs.declared.Address.{Address}
 use Rattle.transport.specs.declared.Kind.{Kind}

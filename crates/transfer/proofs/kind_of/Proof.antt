@@ -1,8 +1,6 @@
-use mathlib.Core.Path.{refl, sym, ap, _∙_}
-use mathlib.Core.Bool.{not}
-use borrow.Author.Tests.{eq-eqb, ne-eqb, not-false}
+use mathlib.Core.Path.{refl}
+use borrow.Author.Tests.{eq-eqb, ne-eqb}
 use Rattle.laws.specs.Choice.{then, else}
-use borrow.Author.Needs.{needs}
 use Rattle.transfer.proofs.kind_of.Statement.{statement}
 use Rattle.transfer.proofs.kind_of.Tie as tie
 use Rattle.transfer.proofs.kind_of.Reads as reads

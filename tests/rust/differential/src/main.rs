@@ -1,6 +1,7 @@
 //! Holds the archive against the rules, call by call, over fixed seeds, and runs the trace samples through it. Exit status 0 only if no
 //! call differed and everything came up that can.
 
+mod network;
 mod pair;
 mod random;
 mod repeats;
@@ -8,6 +9,7 @@ mod samples;
 mod sender;
 mod traffic;
 
+use network::Counts;
 use pair::{Pair, Tally};
 use random::Random;
 use std::process::ExitCode;
@@ -41,6 +43,7 @@ fn main() -> ExitCode {
         print_tally(kind.name, &tally);
         whole.add(&tally);
     }
+    run_network(&mut whole, &mut faults);
     let sent_met = run_samples(&mut whole, &mut faults);
     print_whole(&whole);
     if faults.0.is_empty() {
@@ -77,6 +80,28 @@ fn run_kind(kind: &traffic::Kind, number: u64, faults: &mut Faults) -> Tally {
         }
     }
     tally
+}
+
+/// The sender's network over all seeds, without loss and with losses.
+fn run_network(whole: &mut Tally, faults: &mut Faults) {
+    let mut counts = Counts::default();
+    let before = faults.0.len();
+    for seed in SEEDS {
+        let mut random = Random::new(seed << 8 | 0xFF);
+        let mut pair = Pair::new(&mut random);
+        let verdict = network::without_loss(&mut pair, &mut random, &mut counts)
+            .and_then(|()| network::with_losses(&mut pair, &mut random, &mut counts));
+        if let Err(difference) = verdict {
+            faults.add(format!("network, seed {seed}, call {}: {}", pair.tally.calls, difference.0));
+        }
+        whole.add(&pair.tally);
+    }
+    println!("{}", counts.line());
+    if faults.0.len() == before {
+        for few in counts.too_few() {
+            faults.add(format!("network: too few {few}"));
+        }
+    }
 }
 
 fn run_samples(whole: &mut Tally, faults: &mut Faults) -> u64 {

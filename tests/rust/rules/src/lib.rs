@@ -1,16 +1,18 @@
-//! The scope document's rules (01), as request E1 (02) has changed them, once more in plain Rust: written from the papers and sharing
-//! nothing with the crates that are proved. The differential run holds the two against each other. Clear before fast: a call is a few
-//! searches over eight slots.
+//! The scope document's rules (01), as request E1 (02) has changed them, and the sender of request E2, once more in plain Rust: written
+//! from the papers and sharing nothing with the crates that are proved. The differential run holds the two against each other. Clear
+//! before fast: a call is a few searches over eight slots.
 //!
-//! `receiver` is the receiver over a typed state, `calls` the same through the byte layouts of include/dwaebinam.h.
+//! `receiver` is the receiver over a typed state, `calls` the same through the byte layouts of include/dwaebinam.h; `sending` is the
+//! sender over a typed state.
 
 pub mod calls;
 pub mod frame;
 pub mod groups;
 pub mod receiver;
+pub mod sending;
 pub mod sent;
 
-/// 01 "Numbered refusals".
+/// 01 "Numbered refusals", and from 25 on those of 02.
 #[derive(Clone, Copy, Debug, PartialEq, Eq)]
 #[repr(u8)]
 pub enum Refusal {
@@ -23,7 +25,7 @@ pub enum Refusal {
     TrailerFormat = 7,
     WrongPgn = 8,
     TransferFrameLength = 9,
-    ControlNotAReceivers = 10,
+    ControlNotTaken = 10,
     AnnouncementNumbers = 11,
     MessageTooLarge = 12,
     AssuranceAnnounced = 13,
@@ -38,6 +40,9 @@ pub enum Refusal {
     Silence = 22,
     OutOfBounds = 23,
     Packer = 24,
+    NoFreeTransfer = 25,
+    LentMessageLength = 26,
+    SegmentNotInMessage = 27,
 }
 
 impl Refusal {

@@ -128,7 +128,7 @@ fn grant(max_segments: u8, left: u32) -> u32 {
     u32::from(max_segments).min(GRANT).min(left)
 }
 
-fn opening_ok(own: u8, limit: u32) -> bool {
+pub(crate) fn opening_ok(own: u8, limit: u32) -> bool {
     own <= LARGEST_OWN && (1..=LARGEST_LIMIT).contains(&limit)
 }
 
@@ -238,7 +238,7 @@ impl Receiver {
             2 => self.end_of_message(key, bytes),
             4 => self.announcement(key, Kind::Bam, bytes),
             15 if role == 0 => self.abort(key, bytes),
-            _ => Err(Refusal::ControlNotAReceivers),
+            _ => Err(Refusal::ControlNotTaken),
         }
     }
 

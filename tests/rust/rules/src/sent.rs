@@ -34,7 +34,7 @@ pub fn wire_reason(refusal: Refusal) -> u8 {
     match refusal {
         Refusal::EightSessionsOpen => 1,
         Refusal::Silence => 3,
-        Refusal::SegmentOutOfSequence => 7,
+        Refusal::SegmentOutOfSequence | Refusal::SegmentNotInMessage => 7,
         Refusal::MessageTooLarge => 9,
         _ => 250,
     }
@@ -67,6 +67,6 @@ fn frame(key: Key, control: u8, middle: [u8; 8], pgn: u32) -> Sent {
     Sent { id, bytes }
 }
 
-fn low24(number: u32) -> [u8; 3] {
+pub(crate) fn low24(number: u32) -> [u8; 3] {
     [number as u8, (number >> 8) as u8, (number >> 16) as u8]
 }

@@ -1,16 +1,11 @@
 use mathlib.Core.List.{List}
 use lib.ListN.{length}
 use Prim.Native.Nat.{ℕ}
-use mathlib.Core.Path.{_≡_, refl, sym, ap, subst, _∙_}
+use mathlib.Core.Path.{sym, ap, subst, _∙_}
 use denote.Ref.{now}
-use mathlib.Core.Bool.{Bool, not}
-use borrow.Author.Tests.{eq-eqb, ne-eqb, not-true, not-false}
+use mathlib.Core.Bool.{not}
+use borrow.Author.Tests.{eq-eqb, ne-eqb, not-false}
 use Rattle.laws.specs.Choice.{then, else}
-use Rattle.slots.specs.declared.Found.{Found}
-use Rattle.transfer.specs.declared.State.{State}
-use Rattle.sender_bytes.specs.Places.{lastPlace}
-use Rattle.words.specs.Words.{low32}
-use Rattle.frame.specs.declared.refusal.Refusal.the-variants.{OutOfBounds}
 use Rattle.transport.specs.declared.Key.{Key}
 use Rattle.transfer.specs.declared.Reply.{Reply}
 use Rattle.sender_bytes.specs.Layout.{senderAt}

@@ -1,15 +1,10 @@
-use Prim.Native.Nat.{ℕ}
-use mathlib.Core.Path.{_≡_, refl, sym, ap, subst, _∙_}
+use mathlib.Core.Path.{ap, _∙_}
 use denote.Ref.{now}
-use mathlib.Core.Bool.{Bool, not}
-use borrow.Author.Tests.{eq-eqb, ne-eqb, not-true, not-false}
-use Rattle.laws.specs.Choice.{then, else}
+use mathlib.Core.Bool.{Bool}
 use Rattle.slots.specs.declared.Found.{Found}
 use Rattle.slots.specs.Slots.{isAt}
 use Rattle.transfer.specs.declared.State.{State}
-use Rattle.transfer.specs.declared.Reply.{Reply}
 use Rattle.sender_bytes.specs.Places.{lastPlace}
-use Rattle.sender_bytes.specs.Layout.{senderAt}
 use Rattle.words.specs.Words.{low32}
 use Rattle.transfer.specs.Decisions.{announcedTo}
 use Rattle.sender.proofs.Decided.{decided}

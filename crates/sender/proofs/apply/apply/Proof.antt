@@ -1,8 +1,5 @@
-use mathlib.Core.Path.{_≡_, refl, sym, ap, _∙_}
-use mathlib.Core.Bool.{Bool, not}
+use mathlib.Core.Path.{refl, sym, ap, _∙_}
 use denote.Ref.{now}
-use borrow.Author.Tests.{eq-eqb, ne-eqb, not-true, not-false}
-use Rattle.laws.specs.Choice.{then, else, and-next, and-stop}
 use Rattle.slots.specs.declared.Found.{Found}
 use Rattle.slots.specs.Searches.{found-below}
 use Rattle.sender.specs.Calls.{appliedIn}

@@ -1,11 +1,7 @@
 use Rattle.sender.specs.Transfers.{stateIn}
 use Rattle.sender_bytes.specs.Layout.{transfersAt}
-use Prim.Native.Nat.{ℕ}
-use mathlib.Core.Path.{_≡_, refl, sym, ap, subst, _∙_}
+use mathlib.Core.Path.{sym, ap, subst, _∙_}
 use denote.Ref.{now}
-use mathlib.Core.Bool.{Bool, not}
-use borrow.Author.Tests.{eq-eqb, ne-eqb, not-true, not-false}
-use Rattle.laws.specs.Choice.{then, else}
 use Rattle.slots.specs.declared.Found.{Found}
 use Rattle.transfer.specs.declared.State.{State}
 use Rattle.sender_bytes.specs.Places.{lastPlace}

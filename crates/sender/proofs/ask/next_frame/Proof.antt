@@ -1,12 +1,12 @@
 use Rattle.sender.specs.Transfers.{keyPlace, stateIn}
 use Rattle.sender_bytes.specs.Layout.{transfersAt}
 use Prim.Native.Nat.{ℕ}
-use mathlib.Core.Path.{_≡_, refl, sym, ap, subst, _∙_}
+use mathlib.Core.Path.{sym, ap, subst, _∙_}
 use mathlib.Core.List.{List}
 use lib.ListN.{length}
 use denote.Ref.{now}
-use mathlib.Core.Bool.{Bool, not}
-use borrow.Author.Tests.{eq-eqb, ne-eqb, not-true, not-false}
+use mathlib.Core.Bool.{not}
+use borrow.Author.Tests.{eq-eqb, ne-eqb, not-false}
 use Rattle.laws.specs.Choice.{then, else}
 use Rattle.transport.specs.declared.Key.{Key}
 use Rattle.transfer.specs.declared.Reply.{Reply}

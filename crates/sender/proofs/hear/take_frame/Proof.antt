@@ -1,11 +1,8 @@
 use native.Mathlib.Omega.{arith}
-use Prim.Native.Nat.{ℕ}
-use mathlib.Core.Path.{_≡_, refl, sym, ap, subst, _∙_}
-use mathlib.Core.List.{List}
-use lib.ListN.{length}
+use mathlib.Core.Path.{refl, sym, ap, _∙_}
 use denote.Ref.{now}
-use mathlib.Core.Bool.{Bool, not}
-use borrow.Author.Tests.{eq-eqb, ne-eqb, not-true, not-false}
+use mathlib.Core.Bool.{not}
+use borrow.Author.Tests.{not-false}
 use Rattle.laws.specs.Choice.{then, else}
 use Rattle.frame.specs.declared.judge.Verdict.{Verdict}
 use Rattle.sender.specs.Calls.{onVerdict, hearIn}

@@ -1,8 +1,5 @@
-use mathlib.Core.Path.{_≡_, refl, sym, ap, _∙_}
-use mathlib.Core.List.{List}
+use mathlib.Core.Path.{sym, ap, _∙_}
 use denote.Ref.{now}
-use Rattle.answer.specs.declared.End.{End}
-use Rattle.answer.specs.declared.End.the-variants.{Ended}
 use Rattle.sender.specs.Clock.{endOf, endsIn}
 use Rattle.transfer.specs.declared.State.{State}
 use borrow.Author.Needs.{needs}

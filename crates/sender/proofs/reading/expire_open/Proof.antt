@@ -1,11 +1,9 @@
 use Prim.Native.Nat.{ℕ}
-use Rattle.answer.specs.declared.SlotEnd.{SlotEnd}
-use mathlib.Core.Path.{_≡_, refl, sym, ap, _∙_}
+use mathlib.Core.Path.{sym, ap, _∙_}
 use mathlib.Core.List.{List}
 use denote.Ref.{now}
-use Rattle.answer.specs.declared.End.{End}
 use Rattle.answer.specs.declared.End.the-variants.{Ended}
-use Rattle.sender.specs.Clock.{endOf, endsIn}
+use Rattle.sender.specs.Clock.{endsIn}
 use borrow.Author.Needs.{needs}
 use Rattle.sender.proofs.reading.expire_open.Statement.{statement}
 use Rattle.sender.proofs.reading.expire_open.Tie as tie

@@ -1,9 +1,9 @@
-use mathlib.Core.Path.{_≡_, refl, sym, ap, _∙_}
+use mathlib.Core.Path.{refl, sym, ap, _∙_}
 use mathlib.Core.Bool.{not}
 use denote.Ref.{now}
 use native.Mathlib.Omega.{arith}
-use borrow.Author.Tests.{not-true, not-false}
-use Rattle.laws.specs.Choice.{then, else}
+use borrow.Author.Tests.{not-false}
+use Rattle.laws.specs.Choice.{then}
 use Rattle.sender.specs.Clock.{readingIn}
 use Rattle.sender.specs.Facts.{ready-long}
 use Rattle.sender.proofs.Elapsed.{four-elapsed, read-in}

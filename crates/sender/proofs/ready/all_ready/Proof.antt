@@ -1,8 +1,6 @@
-use mathlib.Core.Path.{_≡_, refl, sym, ap, _∙_}
-use mathlib.Core.Bool.{Bool, not}
-use denote.Ref.{now}
-use borrow.Author.Tests.{eq-eqb, ne-eqb, not-true, not-false}
-use Rattle.laws.specs.Choice.{then, else, and-next, and-stop}
+use mathlib.Core.Path.{sym, _∙_}
+use borrow.Author.Tests.{not-true, not-false}
+use Rattle.laws.specs.Choice.{and-next, and-stop}
 use mathlib.Core.Bool.{and-true}
 use Rattle.sender_bytes.specs.Layout.{transfersAt}
 use borrow.Author.Needs.{needs}

@@ -1,9 +1,8 @@
-use mathlib.Core.Path.{_≡_, refl, sym, ap, _∙_}
-use mathlib.Core.Bool.{Bool, not}
+use mathlib.Core.Path.{refl, sym, ap, _∙_}
+use mathlib.Core.Bool.{not}
 use denote.Ref.{now}
 use borrow.Author.Tests.{eq-eqb, ne-eqb, not-true, not-false}
 use Rattle.laws.specs.Choice.{then, else, and-next, and-stop}
-use Prim.Native.Nat.{ℕ}
 use Rattle.slots.specs.Bounds.{openingOk}
 use Rattle.sender_bytes.specs.Layout.{ownAt}
 use Rattle.sender.specs.Transfers.{inBounds, readyIn}

@@ -1,8 +1,8 @@
-use mathlib.Core.Path.{_≡_, refl, sym, ap, _∙_}
-use mathlib.Core.Bool.{Bool, not}
+use mathlib.Core.Path.{sym, ap, _∙_}
+use mathlib.Core.Bool.{not}
 use denote.Ref.{now}
-use borrow.Author.Tests.{eq-eqb, ne-eqb, not-true, not-false}
-use Rattle.laws.specs.Choice.{then, else, and-next, and-stop}
+use borrow.Author.Tests.{not-true, not-false}
+use Rattle.laws.specs.Choice.{and-next, and-stop}
 use Prim.Native.Nat.{_+_}
 use lib.ListN.{drop}
 use Rattle.transfer.specs.declared.State.{State}

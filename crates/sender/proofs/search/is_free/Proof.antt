@@ -1,5 +1,4 @@
 use denote.Ref.{now}
-use mathlib.Core.Path.{_∙_}
 use Rattle.sender.specs.Held.{freed}
 use borrow.Author.Needs.{needs}
 use Rattle.sender.proofs.search.is_free.Statement.{statement}

@@ -2,8 +2,6 @@ use mathlib.Core.Path.{refl, sym, ap, subst, _∙_}
 use denote.Ref.{now}
 use Rattle.sender.specs.declared.Sent.{Sent}
 use Rattle.transfer.specs.declared.Reply.{Reply}
-use Rattle.transport.specs.declared.announcement.Announcement.{Announcement}
-use Rattle.transport.specs.declared.eoms.Status.{Status}
 use Rattle.transport.specs.Announcements.{announcementBytes}
 use Rattle.transport.specs.Eoms.{statusBytes}
 use Rattle.sender.specs.Calls.{Sendable, sentIn}

@@ -1,8 +1,7 @@
-use mathlib.Core.Path.{refl, ap, _∙_}
+use mathlib.Core.Path.{refl}
 use native.Mathlib.Omega.{arith}
 use denote.Ref.{now}
 use lib.ListN.{length}
-use Rattle.session.specs.Segments.{dueOf}
 use Rattle.sender.proofs.Laid.{due-few, segment-laid}
 use borrow.Author.Needs.{needs}
 use Rattle.sender.proofs.send.send_segment.Statement.{statement}

@@ -1,12 +1,8 @@
-use Prim.Native.Nat.{ℕ, _+_}
-use native.Mathlib.Omega.{arith}
-use mathlib.Core.Path.{_≡_, refl, sym, ap, _∙_}
-use mathlib.Core.List.{List, [], _∷_, _++_}
+use Prim.Native.Nat.{ℕ}
+use mathlib.Core.Path.{sym, ap, _∙_}
+use mathlib.Core.List.{[], _∷_}
 use lib.Seq.{paste}
 use denote.Ref.{now}
-use Rattle.words.specs.Words.{low4}
-use Rattle.words.specs.Laws.{next-field, both}
-use Rattle.transfer.specs.declared.Change.{Change}
 use Rattle.sender_bytes.specs.Layout.{changed}
 use borrow.Author.Needs.{needs}
 use Rattle.sender_bytes.proofs.put.put_change.Statement.{statement}

@@ -1,11 +1,9 @@
 use Prim.Native.Nat.{ℕ, _+_}
 use native.Mathlib.Omega.{arith}
-use mathlib.Core.Path.{_≡_, refl, sym, ap, _∙_}
 use mathlib.Core.List.{List, [], _∷_, _++_}
-use lib.Seq.{paste}
 use denote.Ref.{now}
 use Rattle.words.specs.Words.{low4}
-use Rattle.words.specs.Laws.{next-field, both}
+use Rattle.words.specs.Laws.{next-field}
 use Rattle.sender_bytes.specs.Places.{totalPlace, pgnPlace}
 use borrow.Author.Needs.{needs}
 use Rattle.sender_bytes.proofs.put.put_offer.Statement.{statement}

@@ -1,11 +1,9 @@
-use Prim.Native.Nat.{ℕ, _+_}
+use Prim.Native.Nat.{ℕ}
 use native.Mathlib.Omega.{arith}
-use mathlib.Core.Path.{_≡_, refl, sym, ap, _∙_}
-use mathlib.Core.List.{List, [], _∷_, _++_}
+use mathlib.Core.Path.{ap, _∙_}
 use lib.Seq.{paste}
 use denote.Ref.{now}
-use Rattle.words.specs.Words.{low4}
-use Rattle.words.specs.Laws.{next-field, both}
+use Rattle.words.specs.Laws.{next-field}
 use Rattle.sender_bytes.specs.Places.{transferPlace, coursePlace, offerLength}
 use Rattle.sender_bytes.specs.Layout.{offerBytes, courseBytes}
 use borrow.Author.Needs.{needs}

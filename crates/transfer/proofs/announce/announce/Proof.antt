@@ -1,6 +1,6 @@
 use mathlib.Core.Path.{refl, sym, ap, _∙_}
 use mathlib.Core.Bool.{not}
-use borrow.Author.Tests.{eq-eqb, ne-eqb, not-false}
+use borrow.Author.Tests.{not-false}
 use Rattle.laws.specs.Choice.{then, else}
 use native.Mathlib.Omega.{arith}
 use Rattle.transfer.specs.Laws.{length-facts}

@@ -1,10 +1,7 @@
 use mathlib.Core.Path.{refl, sym, ap, _∙_}
 use mathlib.Core.Bool.{not}
-use borrow.Author.Tests.{eq-eqb, ne-eqb, not-false}
 use Rattle.laws.specs.Choice.{then, else}
 use Rattle.transfer.specs.declared.State.{State}
-use Rattle.transfer.specs.declared.State.the-variants.{Closed}
-use Rattle.transfer.specs.declared.Step.{Step}
 use Rattle.transfer.specs.declared.Change.the-variants.{Opens}
 use Rattle.transfer.specs.declared.Reply.the-variants.{Announced}
 use Rattle.transfer.specs.declared.Transfer.{Transfer}

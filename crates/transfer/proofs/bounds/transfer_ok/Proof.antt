@@ -1,7 +1,5 @@
-use mathlib.Core.Path.{refl, sym, ap, _∙_}
-use mathlib.Core.Bool.{not}
-use borrow.Author.Tests.{eq-eqb, ne-eqb, not-true, not-false}
-use Rattle.laws.specs.Choice.{then, else}
+use mathlib.Core.Path.{sym, _∙_}
+use borrow.Author.Tests.{not-true, not-false}
 use Rattle.laws.specs.Choice.{and-next, and-stop}
 use borrow.Author.Needs.{needs}
 use Rattle.transfer.proofs.bounds.transfer_ok.Statement.{statement}

@@ -1,8 +1,4 @@
-use mathlib.Core.Path.{refl, sym, ap, _∙_}
-use mathlib.Core.Bool.{not}
-use borrow.Author.Tests.{eq-eqb, ne-eqb, not-false}
-use Rattle.laws.specs.Choice.{then, else}
-use Rattle.transfer.specs.declared.State.{State}
+use mathlib.Core.Path.{sym, ap}
 use Rattle.transfer.specs.Decisions.{abortTo}
 use borrow.Author.Needs.{needs}
 use Rattle.transfer.proofs.hear.abort.Statement.{statement}

@@ -1,7 +1,4 @@
-use mathlib.Core.Path.{refl, sym, ap, _∙_}
-use mathlib.Core.Bool.{not}
-use borrow.Author.Tests.{eq-eqb, ne-eqb, not-false}
-use Rattle.laws.specs.Choice.{then, else}
+use mathlib.Core.Path.{sym, ap, _∙_}
 use Rattle.transfer.specs.declared.State.{State}
 use Rattle.transfer.specs.Decisions.{eomaTo}
 use borrow.Author.Needs.{needs}

@@ -2,9 +2,8 @@ use mathlib.Core.Path.{refl, sym, ap, _∙_}
 use Prim.Native.Nat.{ℕ}
 use mathlib.Core.Bool.{_&&_}
 use lib.Dec.{eqb}
-use borrow.Author.Tests.{eq-eqb, ne-eqb, not-false}
 use Rattle.laws.specs.Choice.{then, else}
-use Rattle.transfer.specs.Decisions.{asSent, eomaOpen}
+use Rattle.transfer.specs.Decisions.{eomaOpen}
 use borrow.Author.Needs.{needs}
 use Rattle.transfer.proofs.hear.eoma_open.Statement.{statement}
 use Rattle.transfer.proofs.hear.eoma_open.Tie as tie

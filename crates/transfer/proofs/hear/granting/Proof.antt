@@ -1,7 +1,6 @@
 use Prim.Native.Nat.{ℕ, _+_, _-_}
 use mathlib.Core.Path.{ap}
 use mathlib.Core.Bool.{false}
-use Rattle.transfer.specs.declared.Course.{Course}
 use borrow.Author.Needs.{needs}
 use Rattle.transfer.proofs.hear.granting.Statement.{statement}
 use Rattle.transfer.proofs.hear.granting.Tie as tie

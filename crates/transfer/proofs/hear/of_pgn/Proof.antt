@@ -1,6 +1,5 @@
 use mathlib.Core.Path.{refl, sym, ap, _∙_}
-use mathlib.Core.Bool.{not}
-use borrow.Author.Tests.{eq-eqb, ne-eqb, not-false}
+use borrow.Author.Tests.{eq-eqb, ne-eqb}
 use Rattle.laws.specs.Choice.{then, else}
 use Rattle.transfer.specs.declared.State.{State}
 use Rattle.transfer.specs.Decisions.{ofPgn}

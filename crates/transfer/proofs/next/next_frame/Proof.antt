@@ -1,6 +1,4 @@
-use mathlib.Core.Path.{refl, sym, ap, _∙_}
-use mathlib.Core.Bool.{not}
-use borrow.Author.Tests.{eq-eqb, ne-eqb, not-false}
+use mathlib.Core.Path.{refl, ap}
 use Rattle.laws.specs.Choice.{then, else}
 use borrow.Author.Tests.{lt-ltb, le-ltb}
 use Rattle.transfer.specs.declared.Course.{Course}
