@@ -1,5 +1,8 @@
 // A frame taken by the record that a lent buffer holds: 23, 2, 1, 3, then 9 and the rest by kind (01, "Numbered refusals").
 ghost use mathlib.Core.Path.{_≡_};
+ghost use mathlib.Core.Bool.{true};
+ghost use lib.ListN.{length};
+ghost use Rattle.lent_record.specs.Ready.{readyIn};
 ghost use Rattle.multi_pg.specs.Groups.{judgementOf, groupsRead};
 ghost use Rattle.engine.specs.InBytes.{groupsAnswer, frameIn};
 use super::control::control;
@@ -24,13 +27,11 @@ fn groups(route: Route, bytes: &[u8]) -> Answer
     }
 }
 
-// Takes one frame.
-pub fn take_frame(buffer: &mut [u8], id: u32, bytes: &[u8], store: &mut [u8]) -> Answer
+// Takes one frame, of a record that is in bounds and a store of its length: 2, 1, 3, then 9 and the rest by kind.
+pub fn take_ready(buffer: &mut [u8], id: u32, bytes: &[u8], store: &mut [u8]) -> Answer
+    requires { ⌜ readyIn (now buffer) (length (now store)) ≡ true ⌝ }
     ensures { λ x. ⌜ (x, (now (buffer .exit), now (store .exit))) ≡ frameIn (now (buffer .entry)) id (now (bytes .entry)) (now (store .entry)) ⌝ }
 {
-    if !is_ready(buffer, store.len()) {
-        return Answer::Refused(Refusal::OutOfBounds);
-    }
     let own = own_of(buffer);
     match judge(id, bytes.len(), own) {
         Verdict::MultiPg(route) => groups(route, bytes),
@@ -38,4 +39,14 @@ pub fn take_frame(buffer: &mut [u8], id: u32, bytes: &[u8], store: &mut [u8]) ->
         Verdict::Data(route) => data_frame(buffer, route, bytes, store),
         Verdict::Refused(n) => Answer::Refused(n),
     }
+}
+
+// Takes one frame.
+pub fn take_frame(buffer: &mut [u8], id: u32, bytes: &[u8], store: &mut [u8]) -> Answer
+    ensures { λ x. ⌜ (x, (now (buffer .exit), now (store .exit))) ≡ frameIn (now (buffer .entry)) id (now (bytes .entry)) (now (store .entry)) ⌝ }
+{
+    if !is_ready(buffer, store.len()) {
+        return Answer::Refused(Refusal::OutOfBounds);
+    }
+    take_ready(buffer, id, bytes, store)
 }

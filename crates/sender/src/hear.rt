@@ -1,8 +1,10 @@
 // A control frame taken by the sender (02, E2, "to a control frame").
 ghost use mathlib.Core.Path.{_≡_};
+ghost use mathlib.Core.Bool.{true};
 ghost use lib.ListN.{length};
 ghost use Rattle.sender_bytes.specs.Places.{recordLength};
 ghost use Rattle.sender_bytes.specs.Layout.{senderAt};
+ghost use Rattle.sender.specs.Transfers.{readyIn};
 ghost use Rattle.sender.specs.Calls.{decidedIn, hearsFrom, hearIn};
 use super::apply::apply;
 use super::ready::is_ready;
@@ -33,13 +35,11 @@ pub fn control(buffer: &mut [u8], route: Route, bytes: &[u8]) -> Reply
     apply(buffer, f, step)
 }
 
-// Takes one frame where there is no receiver: 23, 2, 1, 3 for all but a control frame, then 9, 10, 16, 27.
-pub fn take_frame(buffer: &mut [u8], id: u32, bytes: &[u8]) -> Reply
+// Takes one frame of a record in bounds: 2, 1, 3 for all but a control frame, then 9, 10, 16, 27.
+pub fn take_ready(buffer: &mut [u8], id: u32, bytes: &[u8]) -> Reply
+    requires { ⌜ (length (now buffer) ≡ recordLength) × (readyIn (now buffer) ≡ true) ⌝ }
     ensures { λ x. ⌜ (x, now (buffer .exit)) ≡ hearIn (now (buffer .entry)) id (now (bytes .entry)) ⌝ }
 {
-    if !is_ready(buffer) {
-        return Reply::Refused(Refusal::OutOfBounds);
-    }
     let own = Address(buffer[OWN_AT]);
     match judge(id, bytes.len(), own) {
         Verdict::Control(route) => control(buffer, route, bytes),
@@ -47,4 +47,14 @@ pub fn take_frame(buffer: &mut [u8], id: u32, bytes: &[u8]) -> Reply
         Verdict::Data(_) => Reply::Refused(Refusal::NotTaken),
         Verdict::Refused(n) => Reply::Refused(n),
     }
+}
+
+// Takes one frame where there is no receiver: 23, then as above.
+pub fn take_frame(buffer: &mut [u8], id: u32, bytes: &[u8]) -> Reply
+    ensures { λ x. ⌜ (x, now (buffer .exit)) ≡ hearIn (now (buffer .entry)) id (now (bytes .entry)) ⌝ }
+{
+    if !is_ready(buffer) {
+        return Reply::Refused(Refusal::OutOfBounds);
+    }
+    take_ready(buffer, id, bytes)
 }
