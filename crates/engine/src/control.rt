@@ -2,7 +2,6 @@
 // and "End").
 ghost use mathlib.Core.Path.{_≡_};
 ghost use lib.ListN.{length};
-ghost use Rattle.slots.specs.Slots.{isAt};
 ghost use Rattle.receiver.specs.Calls.{slotOf, announceStep, statusStep, abortStep, controlStep};
 ghost use Rattle.record_bytes.specs.Layout.{recordAt};
 ghost use Rattle.record_bytes.specs.Places.{recordLength};
@@ -16,6 +15,7 @@ use record_bytes::places::LAST_AT;
 use session::announcement;
 use session::end;
 use slots::Found;
+use slots::is_at;
 use transport::Key;
 use transport::announcement::Announcement;
 use transport::control::Control;
@@ -23,15 +23,6 @@ use transport::control::read_control;
 use transport::eoms::Status;
 use transport::head::key_of;
 use words::word_at;
-
-fn is_at(f: Found) -> bool
-    ensures { λ r. ⌜ r ≡ isAt f ⌝ }
-{
-    match f {
-        Found::At(_) => true,
-        Found::Nothing => false,
-    }
-}
 
 // The slot's number, for the place of a message's bytes.
 fn slot_of(f: Found) -> usize

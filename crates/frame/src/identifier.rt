@@ -33,7 +33,7 @@ pub enum Built {
     Nothing,
 }
 
-// The identifier that has these fields. No call makes one by it yet; the sender that 02 asks for (E2) will.
+// The identifier that has these fields. Our own frames are made by transport::head, whose fronts are fixed.
 pub fn build(f: Identifier) -> Built
     ensures { λ r. ⌜ r ≡ built f ⌝ }
 {

@@ -1,7 +1,6 @@
 // A message announced: 23, then 3, 8, 26, 14, 25 (02, E2).
 ghost use mathlib.Core.Path.{_≡_};
 ghost use lib.ListN.{length};
-ghost use Rattle.slots.specs.Slots.{isAt};
 ghost use Rattle.sender_bytes.specs.Places.{recordLength};
 ghost use Rattle.sender_bytes.specs.Layout.{senderAt};
 ghost use Rattle.sender.specs.Calls.{keyIn, announces, decidedIn, announceIn};
@@ -18,7 +17,7 @@ use frame::SessionNumber;
 use frame::refusal::Refusal;
 use sender_bytes::places::LAST_AT;
 use sender_bytes::places::OWN_AT;
-use slots::Found;
+use slots::is_at;
 use transfer::Reply;
 use transfer::announce;
 use transport::Key;
@@ -33,15 +32,6 @@ pub fn key_in(buffer: &[u8], da: Address, session: SessionNumber) -> Key
         sa: Address(buffer[OWN_AT]),
         da: da,
         session: session,
-    }
-}
-
-fn is_at(f: Found) -> bool
-    ensures { λ r. ⌜ r ≡ isAt f ⌝ }
-{
-    match f {
-        Found::At(_) => true,
-        Found::Nothing => false,
     }
 }
 

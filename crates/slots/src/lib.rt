@@ -1,4 +1,7 @@
 // Eight slots over one store (01, "Numbers that hold everywhere").
+ghost use mathlib.Core.Path.{_≡_};
+ghost use Rattle.slots.specs.Slots.{isAt};
+
 pub mod bounds;
 pub mod store;
 
@@ -19,4 +22,13 @@ pub struct Slot {
 pub enum Found {
     At(usize),
     Nothing,
+}
+
+pub fn is_at(f: Found) -> bool
+    ensures { λ r. ⌜ r ≡ isAt f ⌝ }
+{
+    match f {
+        Found::At(_) => true,
+        Found::Nothing => false,
+    }
 }

@@ -13,7 +13,7 @@ use Rattle.sender.proofs.announce.announced.Statement.{statement}
 use Rattle.sender.proofs.announce.announced.Tie as tie
 use Rattle.sender.proofs.announce.announced.Reads as reads
 use Rattle.sender.proofs.announce.announced.Lts as lts
-use Rattle.sender.proofs.announce.is_at.Reads as is-at-reads
+use Rattle.slots.proofs.is_at.Reads as is-at-reads
 use Rattle.sender.proofs.apply.apply.Reads as apply-reads
 use Rattle.sender.proofs.search.slot_for.Reads as slot-for-reads
 use Rattle.sender.proofs.search.state_in.Reads as state-in-reads

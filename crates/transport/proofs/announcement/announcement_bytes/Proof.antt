@@ -1,7 +1,8 @@
 use Prim.Native.Nat.{ℕ}
 use mathlib.Core.Path.{refl, ap, _∙_}
 use Rattle.transport.specs.Heads.{head}
-use Rattle.transport.proofs.Written.{equal-byte, same-byte, low3-bytes}
+use Rattle.words.specs.Laws.{both, same-byte}
+use Rattle.transport.proofs.Written.{low3-bytes}
 use borrow.Author.Needs.{needs}
 use Rattle.transport.proofs.announcement.announcement_bytes.Statement.{statement}
 use Rattle.transport.proofs.announcement.announcement_bytes.Tie as tie
@@ -45,7 +46,7 @@ low-byte-requires-9 : tie.Need-low-byte-requires-9
 low-byte-requires-9 c κs = search needs
 
 returns : tie.Need-returns
-returns c = equal-byte (c .before .before .before .before .before .before .before .before .before .before .before .before .before .before .before .head-byte .ensures ∙ ap (λ (x : ℕ). head x (c .before .before .before .before .before .before .before .before .before .before .before .before .before .before .before .before .before .args .key)) (c .before .before .before .before .before .before .before .before .before .before .before .before .before .before .before .before .control-for .ensures))
+returns c = both (c .before .before .before .before .before .before .before .before .before .before .before .before .before .before .before .head-byte .ensures ∙ ap (λ (x : ℕ). head x (c .before .before .before .before .before .before .before .before .before .before .before .before .before .before .before .before .before .args .key)) (c .before .before .before .before .before .before .before .before .before .before .before .before .before .before .before .before .control-for .ensures))
     (low3-bytes _ _ _ _ (c .before .before .before .before .before .before .before .before .before .before .before .before .before .before .low-byte .ensures) (c .before .before .before .before .before .before .before .before .before .before .before .before .low-byte2 .ensures) (c .before .before .before .before .before .before .before .before .before .before .low-byte3 .ensures)
     (low3-bytes _ _ _ _ (c .before .before .before .before .before .before .before .before .before .low-byte4 .ensures) (c .before .before .before .before .before .before .before .low-byte5 .ensures) (c .before .before .before .before .before .low-byte6 .ensures)
     (same-byte _ (same-byte _

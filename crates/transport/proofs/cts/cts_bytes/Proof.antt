@@ -1,5 +1,6 @@
 use mathlib.Core.Path.{refl}
-use Rattle.transport.proofs.Written.{equal-byte, same-byte, low3-bytes}
+use Rattle.words.specs.Laws.{both, same-byte}
+use Rattle.transport.proofs.Written.{low3-bytes}
 use borrow.Author.Needs.{needs}
 use Rattle.transport.proofs.cts.cts_bytes.Statement.{statement}
 use Rattle.transport.proofs.cts.cts_bytes.Tie as tie
@@ -30,7 +31,7 @@ low-byte-requires-6 : tie.Need-low-byte-requires-6
 low-byte-requires-6 c κs = search needs
 
 returns : tie.Need-returns
-returns c = equal-byte (c .before .before .before .before .before .before .before .before .before .before .head-byte .ensures)
+returns c = both (c .before .before .before .before .before .before .before .before .before .before .head-byte .ensures)
     (same-byte _ (same-byte _ (same-byte _
     (low3-bytes _ _ _ _ (c .before .before .before .before .before .before .before .before .before .low-byte .ensures) (c .before .before .before .before .before .before .before .low-byte2 .ensures) (c .before .before .before .before .before .low-byte3 .ensures)
     (same-byte _ (same-byte _
