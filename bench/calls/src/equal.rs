@@ -1,8 +1,11 @@
 //! Both sides give equal answers: an answer and a record of the plain receiver as include/dwaebinam.h lays them out.
 
+pub mod sending;
+
 use crate::frames::{Frame, LIMIT, OWN};
 use crate::ours::{Ours, ANSWER_BYTES, RECORD_BYTES, STORE_BYTES};
-use plain::receiver::{Answer, Key, Receiver, Sent};
+use plain::receiver::{Answer, Receiver};
+use plain::transport::{Key, Sent};
 
 fn put(out: &mut [u8], at: usize, value: u32) {
     out[at..at + 4].copy_from_slice(&value.to_le_bytes());

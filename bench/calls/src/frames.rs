@@ -168,9 +168,93 @@ pub fn transfers(senders: &[Sender]) -> Vec<Frame> {
     frames
 }
 
+/// A transfer of our own, and the control frames that come for it.
+#[derive(Clone, Copy)]
+pub struct Sending {
+    pub da: u8,
+    pub number: u8,
+    pub pgn: u32,
+    pub total: u32,
+}
+
+impl Sending {
+    /// The largest message to the n-th of four destinations.
+    pub fn nth(n: u8) -> Self {
+        Sending {
+            da: 0x90 + n,
+            number: 15 - n,
+            pgn: 0xef00 + 0x100 * u32::from(n),
+            total: TOTAL,
+        }
+    }
+
+    pub fn message(&self) -> Vec<u8> {
+        let mut dice = Dice(u64::from(self.da));
+        (0..self.total).map(|_| dice.roll(256) as u8).collect()
+    }
+
+    pub fn segments(&self) -> u32 {
+        self.total.div_ceil(60)
+    }
+
+    fn reply(&self, control: u8, first: u32, second: u32, byte8: u8, byte9: u8) -> Frame {
+        let mut bytes = [0; 12];
+        bytes[0] = self.number << 4 | control;
+        bytes[1..4].copy_from_slice(&first.to_le_bytes()[..3]);
+        bytes[4..7].copy_from_slice(&second.to_le_bytes()[..3]);
+        bytes[7..9].copy_from_slice(&[byte8, byte9]);
+        bytes[9..].copy_from_slice(&self.pgn.to_le_bytes()[..3]);
+        Frame::new(7 << 26 | 77 << 16 | u32::from(OWN) << 8 | u32::from(self.da), &bytes)
+    }
+
+    pub fn cts(&self, next: u32, count: u8, request: u8) -> Frame {
+        self.reply(1, 0xff_ffff, next, count, request)
+    }
+
+    pub fn eoma(&self) -> Frame {
+        self.reply(3, self.total, self.segments(), 0xff, 0xff)
+    }
+
+    pub fn abort(&self) -> Frame {
+        self.reply(15, 0xff_ffff, 0xff_ffff, 0xfd, 250)
+    }
+
+    /// A reply of each kind, the last with a role that no end takes.
+    fn nth_reply(&self, n: usize) -> Frame {
+        match n {
+            0 => self.cts(1, 16, 0),
+            1 => self.eoma(),
+            2 => self.abort(),
+            _ => self.reply(15, 0xff_ffff, 0xff_ffff, 0xfe, 250),
+        }
+    }
+
+    /// The grants of a receiver, 16 at most: each CTS and how many segments it is for.
+    pub fn grants(&self) -> Vec<(Frame, usize)> {
+        (1..=self.segments())
+            .step_by(16)
+            .map(|next| {
+                let count = (self.segments() + 1 - next).min(16);
+                (self.cts(next, count as u8, 0), count as usize)
+            })
+            .collect()
+    }
+}
+
+/// Damages about one frame of fifteen.
+pub fn damage(frame: &mut Frame, dice: &mut Dice) {
+    const LENGTHS: [usize; 18] = [0, 1, 2, 3, 4, 5, 6, 7, 8, 9, 12, 16, 20, 24, 32, 48, 63, 64];
+    match dice.roll(60) {
+        0 => frame.id ^= 1 << dice.roll(32),
+        1 => frame.length = LENGTHS[dice.roll(LENGTHS.len())],
+        2 => frame.bytes[dice.roll(12)] ^= 1 << dice.roll(8),
+        3 => frame.bytes[dice.roll(64)] = dice.roll(256) as u8,
+        _ => {}
+    }
+}
+
 /// Frames of all kinds, most of them damaged or out of place, to compare both sides on.
 pub fn noise(count: usize, seed: u64) -> Vec<Frame> {
-    const LENGTHS: [usize; 18] = [0, 1, 2, 3, 4, 5, 6, 7, 8, 9, 12, 16, 20, 24, 32, 48, 63, 64];
     let mut dice = Dice(seed);
     let senders: Vec<Sender> = (0..10).map(Sender::nth).collect();
     let stream = stream();
@@ -187,18 +271,13 @@ pub fn noise(count: usize, seed: u64) -> Vec<Frame> {
                 1 => s.status(),
                 2 => s.control(15, 0),
                 3 => stream[dice.roll(stream.len())],
+                4 => Sending::nth(dice.roll(4) as u8).nth_reply(dice.roll(4)),
                 _ => {
                     next[n] = next[n] % SEGMENTS + 1;
                     s.segment(next[n])
                 }
             };
-            match dice.roll(60) {
-                0 => frame.id ^= 1 << dice.roll(32),
-                1 => frame.length = LENGTHS[dice.roll(LENGTHS.len())],
-                2 => frame.bytes[dice.roll(12)] ^= 1 << dice.roll(8),
-                3 => frame.bytes[dice.roll(64)] = dice.roll(256) as u8,
-                _ => {}
-            }
+            damage(&mut frame, &mut dice);
             frame
         })
         .collect()

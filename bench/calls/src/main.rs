@@ -8,8 +8,9 @@
 mod equal;
 mod frames;
 mod ours;
+mod sending;
 
-use frames::{Frame, Sender, LIMIT, OWN};
+use frames::{Frame, Sender, Sending, LIMIT, OWN};
 use ours::{Ours, STORE_BYTES};
 use plain::receiver::{Answer, Receiver};
 use std::hint::black_box;
@@ -215,6 +216,7 @@ fn pack_case(name: &'static str, groups: usize) -> Case {
 
 fn cases() -> Vec<Case> {
     let eight: Vec<Sender> = (0..8).map(Sender::nth).collect();
+    let four_sent: Vec<Sending> = (0..4).map(Sending::nth).collect();
     let stream = frames::stream();
     let mut cases = Vec::new();
     for (name, n) in [("unpack-1", 1), ("unpack-4", 4), ("unpack-15", 15)] {
@@ -231,7 +233,16 @@ fn cases() -> Vec<Case> {
     }
     cases.push(frame_case("judge-0-open", &[], &stream));
     cases.push(frame_case("judge-4-open", &eight[..4], &stream));
+    cases.push(sending::send_case("send-rts", Sending::nth(0)));
+    cases.push(sending::node_case("node-rts", &[], &frames::transfers(&eight[..1])));
+    cases.push(sending::node_case("node-rts-4-sent", &four_sent, &frames::transfers(&eight[..1])));
     cases
+}
+
+/// How often each number was seen.
+fn counts(seen: &[usize; 256]) -> String {
+    let seen: Vec<String> = (0..256).filter(|&n| seen[n] > 0).map(|n| format!("{n}: {}", seen[n])).collect();
+    seen.join(", ")
 }
 
 fn equal() {
@@ -246,8 +257,7 @@ fn equal() {
     for (name, frames) in &lists {
         equal::compare::<true>(name, frames);
         let seen = equal::compare::<false>(name, frames);
-        let seen: Vec<String> = (0..256).filter(|&n| seen[n] > 0).map(|n| format!("{n}: {}", seen[n])).collect();
-        eprintln!("{name}: {} frames equal; numbers {}", frames.len(), seen.join(", "));
+        eprintln!("{name}: {} frames equal; numbers {}", frames.len(), counts(&seen));
         equal::compare_groups(name, frames);
     }
     for n in [1, 4, 15] {
@@ -256,6 +266,11 @@ fn equal() {
         equal::compare_pack("requests", &requests);
         assert!(frames::packed(&requests).len() == 16);
     }
+    equal::sending::compare_send::<true>(&Sending::nth(0));
+    equal::sending::compare_send::<false>(&Sending::nth(0));
+    equal::sending::compare_calls::<true>(200_000, 6);
+    let seen = equal::sending::compare_calls::<false>(200_000, 6);
+    eprintln!("sender and node: calls equal; numbers {}", counts(&seen));
 }
 
 fn sample(side: &mut Side, repeat: usize) -> u128 {

@@ -1,11 +1,13 @@
 //! Our side: the buffers that a program in C would hold, and the calls on them (tests/rust/boundary).
 
-use plain::{SLOTS, SLOT_BYTES};
+use plain::{FRAME_BYTES, SLOTS, SLOT_BYTES};
 
 pub const RECORD_BYTES: usize = 249;
 pub const STORE_BYTES: usize = SLOTS * SLOT_BYTES;
 pub const ANSWER_BYTES: usize = 36;
 pub const GROUPS_WORDS: usize = 48;
+pub const SENDER_BYTES: usize = 113;
+pub const TRANSFER_ANSWERS_BYTES: usize = 4 * ANSWER_BYTES;
 
 pub struct Ours {
     pub record: [u8; RECORD_BYTES],
@@ -27,5 +29,59 @@ impl Ours {
     #[inline(always)]
     pub fn frame(&mut self, id: u32, bytes: &[u8]) -> u8 {
         boundary::frame(&mut self.record, id, bytes, &mut self.store, &mut self.answer)
+    }
+}
+
+pub struct OurSender {
+    pub record: [u8; SENDER_BYTES],
+    pub frame: [u8; FRAME_BYTES],
+    pub answer: [u8; ANSWER_BYTES],
+}
+
+impl OurSender {
+    pub fn open(own: u8, limit: u32, reading: u32) -> Self {
+        let mut sender = OurSender {
+            record: [0; SENDER_BYTES],
+            frame: [0; FRAME_BYTES],
+            answer: [0; ANSWER_BYTES],
+        };
+        assert_eq!(boundary::sender_open(&mut sender.record, own, limit, reading), 0);
+        sender
+    }
+
+    #[inline(always)]
+    pub fn announce(&mut self, da: u8, number: u8, pgn: u32, message: &[u8]) -> u8 {
+        boundary::announce(&mut self.record, da, number, pgn, message, &mut self.frame, &mut self.answer)
+    }
+
+    #[inline(always)]
+    pub fn next_frame(&mut self, da: u8, number: u8, message: &[u8]) -> u8 {
+        boundary::next_frame(&mut self.record, da, number, message, &mut self.frame, &mut self.answer)
+    }
+
+    #[inline(always)]
+    pub fn take(&mut self, id: u32, bytes: &[u8]) -> u8 {
+        boundary::sender_frame(&mut self.record, id, bytes, &mut self.answer)
+    }
+}
+
+/// A receiver and a sender at one address, and the call for both.
+pub struct OurNode {
+    pub receiver: Ours,
+    pub sender: OurSender,
+}
+
+impl OurNode {
+    pub fn open(own: u8, limit: u32, reading: u32) -> Self {
+        OurNode {
+            receiver: Ours::open(own, limit, reading),
+            sender: OurSender::open(own, limit, reading),
+        }
+    }
+
+    #[inline(always)]
+    pub fn frame(&mut self, id: u32, bytes: &[u8]) -> u8 {
+        let Ours { record, store, answer } = &mut self.receiver;
+        boundary::node_frame(record, id, bytes, store, &mut self.sender.record, answer)
     }
 }

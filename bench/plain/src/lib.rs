@@ -1,9 +1,12 @@
-//! The data link in plain Rust, to measure against and to compare with: frames, groups, packing and the receiver. Written from 01 and E1 of
-//! 02; shares nothing with crates/.
+//! The data link in plain Rust, to measure against and to compare with: frames, groups, packing, the receiver, the sender and a node of
+//! both. Written from 01 and E1 and E2 of 02; shares nothing with crates/.
 
+pub mod node;
 pub mod receiver;
+pub mod sender;
+pub mod transport;
 
-/// A number of 01, "Numbered refusals".
+/// A number of 01, "Numbered refusals", or of 02.
 pub type Refusal = u8;
 
 pub const SLOTS: usize = 8;

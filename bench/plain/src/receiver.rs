@@ -1,33 +1,11 @@
 //! The receiver: a typed record behind `&mut self`, eight slots over a lent store.
 
-use crate::{is_can_fd_length, low_byte_is_wrong, Groups, Refusal, SLOTS, SLOT_BYTES};
+use crate::transport::{control_frame, is_pgn, is_responders, number24, put24, wire_reason, ControlBytes, Key, Sent, SEGMENT_BYTES};
+use crate::{is_can_fd_length, Groups, Refusal, SLOTS, SLOT_BYTES};
 
 pub const GRANT: u32 = 16;
-pub const SEGMENT_BYTES: u32 = 60;
 
-type Store = [u8; SLOTS * SLOT_BYTES];
-
-/// SA, DA and session number in one word, so that two keys are compared at once.
-#[derive(Clone, Copy, PartialEq, Eq)]
-pub struct Key(u32);
-
-impl Key {
-    fn new(sa: u8, da: u8, number: u8) -> Self {
-        Key(u32::from_le_bytes([sa, da, number, 0]))
-    }
-
-    pub fn sa(self) -> u8 {
-        self.0 as u8
-    }
-
-    pub fn da(self) -> u8 {
-        (self.0 >> 8) as u8
-    }
-
-    pub fn number(self) -> u8 {
-        (self.0 >> 16) as u8
-    }
-}
+pub(crate) type Store = [u8; SLOTS * SLOT_BYTES];
 
 #[derive(Clone, Copy)]
 pub struct Session {
@@ -40,12 +18,6 @@ pub struct Session {
     pub next: u32,
     pub granted: u32,
     pub mark: u32,
-}
-
-/// A control frame that we send.
-pub struct Sent {
-    pub id: u32,
-    pub bytes: [u8; 12],
 }
 
 pub enum Answer<'a> {
@@ -98,36 +70,8 @@ impl Answer<'_> {
     }
 }
 
-fn number24(bytes: &[u8; 12], at: usize) -> u32 {
-    u32::from_le_bytes([bytes[at], bytes[at + 1], bytes[at + 2], 0])
-}
-
-fn put24(to: &mut [u8; 12], at: usize, value: u32) {
-    to[at..at + 3].copy_from_slice(&value.to_le_bytes()[..3]);
-}
-
-fn wire_reason(refusal: Refusal) -> u8 {
-    match refusal {
-        12 => 9,
-        15 => 1,
-        19 => 7,
-        22 => 3,
-        _ => 250,
-    }
-}
-
-fn control_frame(own: u8, key: Key, control: u8, pgn: u32) -> Sent {
-    let mut bytes = [0xff; 12];
-    bytes[0] = key.number() << 4 | control;
-    put24(&mut bytes, 9, pgn);
-    Sent {
-        id: 7 << 26 | 77 << 16 | u32::from(key.sa()) << 8 | u32::from(own),
-        bytes,
-    }
-}
-
 fn cts(own: u8, s: &Session, count: u8) -> Sent {
-    let mut sent = control_frame(own, s.key, 1, s.pgn);
+    let mut sent = control_frame(s.key.number(), 1, s.pgn, s.key.sa(), own);
     put24(&mut sent.bytes, 4, s.next);
     sent.bytes[7] = count;
     sent.bytes[8] = 0;
@@ -135,14 +79,14 @@ fn cts(own: u8, s: &Session, count: u8) -> Sent {
 }
 
 fn eoma(own: u8, s: &Session) -> Sent {
-    let mut sent = control_frame(own, s.key, 3, s.pgn);
+    let mut sent = control_frame(s.key.number(), 3, s.pgn, s.key.sa(), own);
     put24(&mut sent.bytes, 1, s.total);
     put24(&mut sent.bytes, 4, s.segments);
     sent
 }
 
 fn abort(own: u8, key: Key, pgn: u32, refusal: Refusal) -> Sent {
-    let mut sent = control_frame(own, key, 15, pgn);
+    let mut sent = control_frame(key.number(), 15, pgn, key.sa(), own);
     sent.bytes[7] = 0xfd;
     sent.bytes[8] = wire_reason(refusal);
     sent
@@ -160,10 +104,6 @@ fn grant<'a>(own: u8, s: &mut Session) -> Answer<'a> {
         count: count as u8,
         sent: cts(own, s, count as u8),
     }
-}
-
-fn is_pgn(pgn: u32) -> bool {
-    pgn >> 18 == 0 && !low_byte_is_wrong(pgn)
 }
 
 /// `CHECKED` says whether each call checks the whole record, as 01 asks of every receiver (refusal 23), or trusts it.
@@ -205,11 +145,11 @@ impl<const CHECKED: bool> Receiver<CHECKED> {
     }
 
     #[inline(always)]
-    fn in_bounds(&self) -> bool {
+    pub(crate) fn in_bounds(&self) -> bool {
         if self.own > 253 || self.limit.wrapping_sub(1) >= 60_000 {
             return false;
         }
-        let mut keys = [Key(0); SLOTS];
+        let mut keys = [Key::new(0, 0, 0); SLOTS];
         let mut open = 0;
         for s in self.slots.iter().flatten() {
             if !self.session_in_bounds(s) || keys[..open].contains(&s.key) {
@@ -246,6 +186,12 @@ impl<const CHECKED: bool> Receiver<CHECKED> {
         if CHECKED && !self.in_bounds() {
             return Answer::Refused(23);
         }
+        self.take(id, bytes, store)
+    }
+
+    /// Takes a frame after 23.
+    #[inline(always)]
+    pub(crate) fn take<'a>(&mut self, id: u32, bytes: &'a [u8], store: &'a mut Store) -> Answer<'a> {
         if id >> 29 != 0 {
             return Answer::Refused(2);
         }
@@ -276,7 +222,7 @@ impl<const CHECKED: bool> Receiver<CHECKED> {
         }
     }
 
-    fn control<'a>(&mut self, sa: u8, da: u8, bytes: &[u8; 12], store: &'a Store) -> Answer<'a> {
+    fn control<'a>(&mut self, sa: u8, da: u8, bytes: &ControlBytes, store: &'a Store) -> Answer<'a> {
         let number = bytes[0] >> 4;
         let key = Key::new(sa, da, number);
         match bytes[0] & 15 {
@@ -284,11 +230,13 @@ impl<const CHECKED: bool> Receiver<CHECKED> {
             4 => self.announcement(key, true, bytes),
             2 => self.end_of_message(key, bytes, store),
             15 if bytes[7] & 3 == 0 => self.abort_received(key, bytes),
+            // 02, E2: a receiver alone has no transfer
+            _ if is_responders(bytes) => Answer::Refused(16),
             _ => Answer::Refused(10),
         }
     }
 
-    fn announcement<'a>(&mut self, key: Key, is_bam: bool, bytes: &[u8; 12]) -> Answer<'a> {
+    fn announcement<'a>(&mut self, key: Key, is_bam: bool, bytes: &ControlBytes) -> Answer<'a> {
         if is_bam != (key.da() == 255) {
             return Answer::Refused(11);
         }
@@ -371,7 +319,7 @@ impl<const CHECKED: bool> Receiver<CHECKED> {
         Answer::Taken { key: s.key, segment }
     }
 
-    fn end_of_message<'a>(&mut self, key: Key, bytes: &[u8; 12], store: &'a Store) -> Answer<'a> {
+    fn end_of_message<'a>(&mut self, key: Key, bytes: &ControlBytes, store: &'a Store) -> Answer<'a> {
         let Some(slot) = self.find(key) else {
             return Answer::Refused(16);
         };
@@ -398,7 +346,7 @@ impl<const CHECKED: bool> Receiver<CHECKED> {
         answer
     }
 
-    fn abort_received<'a>(&mut self, key: Key, bytes: &[u8; 12]) -> Answer<'a> {
+    fn abort_received<'a>(&mut self, key: Key, bytes: &ControlBytes) -> Answer<'a> {
         match self.find(key) {
             Some(slot) if self.slots[slot].is_some_and(|s| s.pgn == number24(bytes, 9)) => {
                 self.slots[slot] = None;

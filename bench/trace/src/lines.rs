@@ -1,6 +1,7 @@
 //! The lines of 01, "Program".
 
-use plain::receiver::{Answer, Key, Sent};
+use plain::receiver::Answer;
+use plain::transport::{Key, Sent};
 use std::io::Write;
 
 fn decimal(out: &mut Vec<u8>, value: u64) {

@@ -14,7 +14,7 @@ use Rattle.receiver.specs.Calls.{stays}
 use Rattle.answer_bytes.specs.Places.{answerLength, answersLength, answerPlace, sentPlace}
 use Rattle.answer_bytes.specs.Answers.{fieldsOf, fieldsBytes, sentBytes}
 use Rattle.answer_bytes.specs.Sizes.{length-answer, length-fields}
-use Rattle.answer_bytes.specs.Ends.{endBytes, endsBytes}
+use Rattle.answer_bytes.specs.Ends.{endBytes, endsBy, endsBytes}
 
 pub length-end : (e : End) → length (endBytes e) ≡ answerLength
 length-end end.Stays = refl
@@ -26,19 +26,23 @@ end-sent end.Stays = refl
 end-sent (end.Ended e) =
     drop-at (fieldsBytes (fieldsOf (Ended e))) (sentBytes (sendingOf (endSends (end.Ended e)))) sentPlace (length-fields (fieldsOf (Ended e)))
 
--- where slot i's answer is
+-- where answer i is
+module _ (f : End → List ℕ) (size : (e : End) → length (f e) ≡ answerLength) where
+  pub place-by : (es : List SlotEnd) (i : ℕ) (d : SlotEnd) → i < length es → take answerLength (drop (answerPlace i) (endsBy f es)) ≡ f (getD es i d .end)
+  unfolding endsBy
+  place-by [] i d h = absurd (omega arith)
+  place-by (e ∷ es) zero d h = take-at (f (e .end)) (endsBy f es) answerLength (size (e .end))
+  place-by (e ∷ es) (suc i) d h =
+      let b : List ℕ = f (e .end) in
+      let w : answerPlace (suc i) ≡ length b + answerPlace i = omega (arith, size (e .end)) in
+      ap (λ (k : ℕ). take answerLength (drop k (b ++ endsBy f es))) w
+      ∙ ap (take answerLength) (drop-append-add b (endsBy f es) (answerPlace i))
+      ∙ place-by es i d (omega arith)
+
 pub end-place : (es : List SlotEnd) (i : ℕ) (d : SlotEnd) → i < length es → take answerLength (drop (answerPlace i) (endsBytes es)) ≡ endBytes (getD es i d .end)
-unfolding endsBytes
-end-place [] i d h = absurd (omega arith)
-end-place (e ∷ es) zero d h = take-at (endBytes (e .end)) (endsBytes es) answerLength (length-end (e .end))
-end-place (e ∷ es) (suc i) d h =
-    let b : List ℕ = endBytes (e .end) in
-    let w : answerPlace (suc i) ≡ length b + answerPlace i = omega (arith, length-end (e .end)) in
-    ap (λ (k : ℕ). take answerLength (drop k (b ++ endsBytes es))) w
-    ∙ ap (take answerLength) (drop-append-add b (endsBytes es) (answerPlace i))
-    ∙ end-place es i d (omega arith)
+end-place = place-by endBytes length-end
 
 -- zeros where no session ends
 pub none-ends : endsBytes (replicate 8 stays) ≡ replicate answersLength 0
-unfolding endsBytes
+unfolding endsBy
 none-ends = refl

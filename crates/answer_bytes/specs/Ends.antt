@@ -14,6 +14,10 @@ abbrev pub endBytes : End → List ℕ
 endBytes end.Stays = replicate answerLength 0
 endBytes (end.Ended e) = answerBytes (Ended e)
 
-unfoldable pub endsBytes : List SlotEnd → List ℕ
-endsBytes [] = []
-endsBytes (e ∷ es) = endBytes (e .end) ++ endsBytes es
+-- one after another, each as f gives it
+unfoldable pub endsBy : (End → List ℕ) → List SlotEnd → List ℕ
+endsBy f [] = []
+endsBy f (e ∷ es) = f (e .end) ++ endsBy f es
+
+abbrev pub endsBytes : List SlotEnd → List ℕ
+endsBytes es = endsBy endBytes es

@@ -1,6 +1,7 @@
 -- How long the bytes of an answer are.
 use Prim.Native.Nat.{ℕ, _+_}
 use mathlib.Core.Path.{_≡_, refl, ap, _∙_}
+use mathlib.Core.List.{List, _++_}
 use lib.ListN.{length, length-append}
 use Rattle.transport.specs.declared.response.Response.{Response}
 use Rattle.transport.specs.declared.response.Response.the-variants.{Cts, Eoma, Abort}
@@ -28,9 +29,11 @@ pub length-fields : (f : Fields) → length (fieldsBytes f) ≡ sentPlace
 unfolding fieldsBytes
 length-fields f = refl
 
+pub length-whole : (F : Fields) (S : List ℕ) → length S ≡ sentLength → length (fieldsBytes F ++ S) ≡ answerLength
+length-whole F S size =
+    length-append (fieldsBytes F) S ∙ ap (λ (n : ℕ). n + length S) (length-fields F) ∙ ap (λ (n : ℕ). sentPlace + n) size
+
 pub length-answer : (a : Answer) → length (answerBytes a) ≡ answerLength
 length-answer a =
     let s : Sending = sendingOf (answerSends a) in
-    length-append (fieldsBytes (fieldsOf a)) (sentBytes s)
-    ∙ ap (λ (n : ℕ). n + length (sentBytes s)) (length-fields (fieldsOf a))
-    ∙ ap (λ (n : ℕ). sentPlace + n) (length-sent s)
+    length-whole (fieldsOf a) (sentBytes s) (length-sent s)

@@ -2,8 +2,10 @@
 // that is due.
 ghost use mathlib.Core.Path.{_≡_};
 ghost use Prim.Native.Nat.{_+_, _%_, _≤_};
+ghost use mathlib.Core.List.{_∷_};
 ghost use lib.ListN.{length};
 ghost use lib.Seq.{paste};
+ghost use Rattle.words.specs.Words.{low4};
 ghost use Rattle.answer_bytes.specs.Answers.{noKey, keyed, takenFields, grantFields, messageFields, endedFields, rejectionFields, fieldsOf, fieldsBytes, responseSent, sentBytes, answerBytes};
 ghost use Rattle.answer_bytes.specs.Places.{answerLength, sentPlace, sentLength};
 
@@ -50,7 +52,7 @@ pub struct Fields {
     pub segment: u32,
 }
 
-fn no_key() -> Key
+pub fn no_key() -> Key
     ensures { λ r. ⌜ r ≡ noKey ⌝ }
 {
     Key {
@@ -60,7 +62,7 @@ fn no_key() -> Key
     }
 }
 
-fn keyed_fields(code: u8, number: u8, key: Key) -> Fields
+pub fn keyed_fields(code: u8, number: u8, key: Key) -> Fields
     ensures { λ r. ⌜ r ≡ keyed code number key ⌝ }
 {
     Fields {
@@ -201,16 +203,24 @@ pub fn put_fields(f: Fields, out: &mut [u8], at: usize)
     put_word(out, at + SEGMENT_AT, f.segment);
 }
 
+// What goes out, after the fields: whether a frame does, its identifier, a control frame's data.
+pub fn put_frame(sends: u8, id: u32, bytes: [u8; 12], out: &mut [u8], at: usize)
+    requires { ⌜ at + answerLength ≤ length (now out) ⌝ }
+    ensures { λ _. ⌜ now (out .exit) ≡ paste (now (out .entry)) (at + sentPlace) (sends ∷ low4 id bytes) sentLength ⌝ }
+{
+    let sent = [sends];
+    copy(out, at + SENT_AT, &sent, 0, 1);
+    put_word(out, at + IDENTIFIER_AT, id);
+    copy(out, at + DATA_AT, &bytes, 0, DATA_BYTES);
+}
+
 // A control frame after the fields: 1, identifier, 12 bytes.
 fn put_response(f: Response, out: &mut [u8], at: usize)
     requires { ⌜ at + answerLength ≤ length (now out) ⌝ }
     ensures { λ _. ⌜ now (out .exit) ≡ paste (now (out .entry)) (at + sentPlace) (responseSent f) sentLength ⌝ }
 {
-    let sent = [1u8];
     let data = response::bytes(f);
-    copy(out, at + SENT_AT, &sent, 0, 1);
-    put_word(out, at + IDENTIFIER_AT, response::identifier(f));
-    copy(out, at + DATA_AT, &data, 0, DATA_BYTES);
+    put_frame(1, response::identifier(f), data, out, at);
 }
 
 // What is sent, after the fields; zeros where nothing is.

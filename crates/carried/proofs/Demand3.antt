@@ -51,7 +51,7 @@ module _ (own limit first : ℕ) (d : List ℕ) (zero-answered : openedIn own li
   abbrev O : Receiver
   O = openedWith (record { 0 = own }) limit first
 
-  opened-fine : Fine O m
+  pub opened-fine : Fine O m
   unfolding opened
   opened-fine = record {
     bounds = opens-in-bounds (record { 0 = own }) limit first (opens own limit first d zero-answered .0);
@@ -60,7 +60,7 @@ module _ (own limit first : ℕ) (d : List ℕ) (zero-answered : openedIn own li
     whole = whole;
   }
 
-  opened-holds : HasRecord (openedIn own limit first d .1) O
+  pub opened-holds : HasRecord (openedIn own limit first d .1) O
   opened-holds =
       subst (λ (b : List ℕ). HasRecord b O) (sym (opens own limit first d zero-answered .1))
       (record { codes = is-record O (fine-fits O m opened-fine); reads = read-back O (fine-fits O m opened-fine) })

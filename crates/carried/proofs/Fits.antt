@@ -12,7 +12,7 @@ use borrow.Author.Tests.{ltb-true, leb-true}
 use Rattle.laws.specs.Choice.{each-of}
 use Rattle.frame.specs.declared.Address.{Address}
 use Rattle.frame.specs.declared.refusal.Refusal.{Refusal}
-use Rattle.frame.specs.declared.refusal.Refusal.the-variants.{Silence, OutOfBounds, TransferLength, NotReceivers}
+use Rattle.frame.specs.declared.refusal.Refusal.the-variants.{Silence, OutOfBounds, TransferLength}
 use Rattle.frame.specs.declared.judge.Verdict.{Verdict}
 use Rattle.frame.specs.declared.judge.Verdict.the-variants as verdict
 use Rattle.frame.specs.declared.judge.Route.{Route}
@@ -27,7 +27,7 @@ use Rattle.transport.specs.declared.control.Control.the-variants as control
 use Rattle.transport.specs.declared.segment.Segment.{Segment}
 use Rattle.transport.specs.declared.segment.DataFrame.{DataFrame}
 use Rattle.transport.specs.declared.segment.DataFrame.the-variants as dataframe
-use Rattle.transport.specs.Control.{controlOf}
+use Rattle.transport.specs.Control.{notReceivers, controlOf}
 use Rattle.transport.specs.Heads.{controlAt, keyOf}
 use Rattle.transport.specs.Announcements.{announcementAt}
 use Rattle.transport.specs.Eoms.{statusAt}
@@ -198,7 +198,7 @@ module _ (r : Receiver) (h : Narrow r) (f : RecordFits r) where
           → Well (onControl (cond t (control.Refused TransferLength)
           (cond u (control.Announce (announcementAt Rts d))
           (cond v (control.Announce (announcementAt Bam d))
-          (cond w (control.EndOfMessage (statusAt d)) (cond x (control.Abort (abortPgnAt d)) (control.Refused NotReceivers)))))) r (keyOf route d))
+          (cond w (control.EndOfMessage (statusAt d)) (cond x (control.Abort (abortPgnAt d)) (control.Refused (notReceivers d))))))) r (keyOf route d))
       go true u v w x = refused-well TransferLength
       go false true v w x = announces K (announcementAt Rts d) (pgn-small d b)
       go false false true w x = announces K (announcementAt Bam d) (pgn-small d b)
@@ -206,7 +206,7 @@ module _ (r : Receiver) (h : Narrow r) (f : RecordFits r) where
           well G (statusTo (stateIn G (r .slots)) (slotOf G) (statusAt d))
           (status-fits (stateIn G (r .slots)) (slotOf G) (statusAt d) (state-small G) (slot-small G (for-within K (r .slots) 8 (f .eight))))
       go false false false false true = well G (abortTo (stateIn G (r .slots)) (abortPgnAt d)) (abort-fits (stateIn G (r .slots)) (abortPgnAt d))
-      go false false false false false = refused-well NotReceivers
+      go false false false false false = refused-well (notReceivers d)
 
   segments : (k : Key) (sg : Segment) (d m : List ℕ) → Well (segmentStep r k sg d m .0)
   unfolding segmentStep

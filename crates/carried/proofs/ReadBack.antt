@@ -29,7 +29,7 @@ use Rattle.answer_bytes.specs.declared.Fields.{Fields}
 use Rattle.answer_bytes.specs.Answers.{fieldsOf, fieldsBytes, sentBytes, answerBytes}
 use Rattle.isolation.specs.Replies.{Wire, Says, Reply, ended}
 use Rattle.isolation.specs.Observe.{isKey, saysOf, replyOf, endReply, endingOf, endingsOf}
-use Rattle.answer_bytes.specs.Ends.{endBytes, endsBytes}
+use Rattle.answer_bytes.specs.Ends.{endBytes, endsBy, endsBytes}
 use Rattle.answer_bytes.specs.EndLaws.{length-end}
 use Rattle.carried.specs.ReadBack.{answerAt, unrouted, wireAt}
 use Rattle.carried.specs.Shown.{replyAt, endingAt, endingsAt}
@@ -143,7 +143,7 @@ end-back k (end.Ended e) (f, g) =
     ∙ ap (λ (w : Option Wire). record { number = numberOf (e .refusal); says = ended (e .key) (e .kind) (e .pgn); sends = w }) (wire-back (Ended e) g))
 
 pub ends-back : (k : ℕ) (es : List SlotEnd) → EndsFit es → endingsAt k (length es) (endsBytes es) ≡ endingsOf k es
-unfolding endsBytes endingsOf
+unfolding endsBy endingsOf
 ends-back k [] f = refl
 ends-back k (e ∷ es) (f, fs) =
     let b : List ℕ = endBytes (e .end) in

@@ -12,7 +12,7 @@ use lib.ListN.{length, take, length-take, length-drop}
 use borrow.Author.Tests.{eq-eqb, ne-eqb, lt-ltb, le-ltb, lt-leb, ltb-true}
 use Rattle.laws.specs.Bools.{both}
 use Rattle.laws.specs.Choice.{else}
-use Rattle.frame.specs.declared.refusal.Refusal.the-variants.{NotTaken, TransferLength, NotReceivers}
+use Rattle.frame.specs.declared.refusal.Refusal.the-variants.{NotTaken, TransferLength}
 use Rattle.frame.specs.declared.identifier.Identifier.{Identifier}
 use Rattle.frame.specs.Identifiers.{identifierOf}
 use Rattle.frame.specs.declared.judge.Verdict.the-variants.{Control, Refused}
@@ -28,7 +28,7 @@ use Rattle.transport.specs.declared.Kind.the-variants.{Rts, Bam}
 use Rattle.transport.specs.Eoms.{statusAt}
 use Rattle.transport.specs.Aborts.{roleAt, abortPgnAt}
 use Rattle.transport.specs.Segments.{formatAt, numberAt, dataAt, segmentBytes}
-use Rattle.transport.specs.Control.{controlOf}
+use Rattle.transport.specs.Control.{notReceivers, controlOf}
 use Rattle.transport.specs.Responses.{responseId, responseBytes, responseOf}
 use Rattle.transport.specs.ReadBack.{Three, low24-read-back, KeyFits, fieldsTo, id-read-back, readOf, read-back, announcement-read-back, status-read-back, segment-long, data-read-back}
 use Rattle.session.specs.Segments.{dueOf}
@@ -67,7 +67,7 @@ control-same d = go (eqb (length d) 12) (eqb (controlAt d) 0) (eqb (controlAt d)
         (cond b (control.Announce (announcementAt Bam d))
         (cond s (control.EndOfMessage (statusAt d))
         (cond a (control.Abort (abortPgnAt d))
-        (control.Refused NotReceivers))))))
+        (control.Refused (notReceivers d)))))))
     go false r b s a = refl
     go true true b s a = refl
     go true false true s a = refl

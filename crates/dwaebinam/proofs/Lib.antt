@@ -1,4 +1,4 @@
+pub mod Answered
 pub mod Exports
 pub mod Counts
 pub mod Messages
-pub mod Readings

@@ -6,7 +6,7 @@ use mathlib.Core.List.{List, [], _∷_}
 use native.Mathlib.Omega.{arith}
 use lib.Dec.{eqb}
 use Rattle.frame.specs.declared.refusal.Refusal.{Refusal}
-use Rattle.frame.specs.declared.refusal.Refusal.the-variants.{FrameLength, IdentifierRange, NotTaken, HeaderCut, DataCut, ServiceType, TrailerFormat, PgnForm, TransferLength, NotReceivers, AnnouncementForm, TooLong, Assurance, KeyOpen, SlotsFull, KeyNotOpen, FormatIndicator, AlreadyTaken, OutOfSequence, SegmentCut, StatusMismatch, Silence, OutOfBounds, PackRequest, TransfersFull, MessageLength, GrantRange}
+use Rattle.frame.specs.declared.refusal.Refusal.the-variants.{FrameLength, IdentifierRange, NotTaken, HeaderCut, DataCut, ServiceType, TrailerFormat, PgnForm, TransferLength, NeitherTakes, AnnouncementForm, TooLong, Assurance, KeyOpen, SlotsFull, KeyNotOpen, FormatIndicator, AlreadyTaken, OutOfSequence, SegmentCut, StatusMismatch, Silence, OutOfBounds, PackRequest, TransfersFull, MessageLength, GrantRange}
 use Rattle.frame.specs.Refusals.{numberOf}
 
 abbrev firstOf : ℕ → ℕ → List Refusal → Refusal
@@ -18,7 +18,7 @@ abbrev pub refusalAt : ℕ → Refusal
 refusalAt n =
     firstOf n 1
     (FrameLength ∷ IdentifierRange ∷ NotTaken ∷ HeaderCut ∷ DataCut ∷ ServiceType ∷ TrailerFormat ∷ PgnForm ∷
-    TransferLength ∷ NotReceivers ∷ AnnouncementForm ∷ TooLong ∷ Assurance ∷ KeyOpen ∷ SlotsFull ∷ KeyNotOpen ∷
+    TransferLength ∷ NeitherTakes ∷ AnnouncementForm ∷ TooLong ∷ Assurance ∷ KeyOpen ∷ SlotsFull ∷ KeyNotOpen ∷
     FormatIndicator ∷ AlreadyTaken ∷ OutOfSequence ∷ SegmentCut ∷ StatusMismatch ∷ Silence ∷ OutOfBounds ∷ PackRequest ∷
     TransfersFull ∷ MessageLength ∷ [])
 
@@ -38,7 +38,7 @@ numbered ServiceType = record { back = refl; some = omega arith; few = omega ari
 numbered TrailerFormat = record { back = refl; some = omega arith; few = omega arith }
 numbered PgnForm = record { back = refl; some = omega arith; few = omega arith }
 numbered TransferLength = record { back = refl; some = omega arith; few = omega arith }
-numbered NotReceivers = record { back = refl; some = omega arith; few = omega arith }
+numbered NeitherTakes = record { back = refl; some = omega arith; few = omega arith }
 numbered AnnouncementForm = record { back = refl; some = omega arith; few = omega arith }
 numbered TooLong = record { back = refl; some = omega arith; few = omega arith }
 numbered Assurance = record { back = refl; some = omega arith; few = omega arith }

@@ -1,7 +1,7 @@
 -- The numbers of the refusals: 01, "Numbered refusals", and 02.
 use Prim.Native.Nat.{ℕ}
 use Rattle.frame.specs.declared.refusal.Refusal.{Refusal}
-use Rattle.frame.specs.declared.refusal.Refusal.the-variants.{FrameLength, IdentifierRange, NotTaken, HeaderCut, DataCut, ServiceType, TrailerFormat, PgnForm, TransferLength, NotReceivers, AnnouncementForm, TooLong, Assurance, KeyOpen, SlotsFull, KeyNotOpen, FormatIndicator, AlreadyTaken, OutOfSequence, SegmentCut, StatusMismatch, Silence, OutOfBounds, PackRequest, TransfersFull, MessageLength, GrantRange}
+use Rattle.frame.specs.declared.refusal.Refusal.the-variants.{FrameLength, IdentifierRange, NotTaken, HeaderCut, DataCut, ServiceType, TrailerFormat, PgnForm, TransferLength, NeitherTakes, AnnouncementForm, TooLong, Assurance, KeyOpen, SlotsFull, KeyNotOpen, FormatIndicator, AlreadyTaken, OutOfSequence, SegmentCut, StatusMismatch, Silence, OutOfBounds, PackRequest, TransfersFull, MessageLength, GrantRange}
 
 abbrev pub numberOf : Refusal → ℕ
 numberOf FrameLength = 1
@@ -13,7 +13,7 @@ numberOf ServiceType = 6
 numberOf TrailerFormat = 7
 numberOf PgnForm = 8
 numberOf TransferLength = 9
-numberOf NotReceivers = 10
+numberOf NeitherTakes = 10
 numberOf AnnouncementForm = 11
 numberOf TooLong = 12
 numberOf Assurance = 13

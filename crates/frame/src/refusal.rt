@@ -21,8 +21,8 @@ pub enum Refusal {
     PgnForm,
     // 9: a control frame not of 12 bytes, a data frame under 5
     TransferLength,
-    // 10: a control or a role that is not a receiver's
-    NotReceivers,
+    // 10: a control or a role that neither a receiver nor a sender takes
+    NeitherTakes,
     // 11: an announcement to the wrong destination, or whose numbers do not agree
     AnnouncementForm,
     // 12: Total Bytes over a slot's
@@ -73,7 +73,7 @@ pub fn number(r: Refusal) -> u8
         Refusal::TrailerFormat => 7,
         Refusal::PgnForm => 8,
         Refusal::TransferLength => 9,
-        Refusal::NotReceivers => 10,
+        Refusal::NeitherTakes => 10,
         Refusal::AnnouncementForm => 11,
         Refusal::TooLong => 12,
         Refusal::Assurance => 13,

@@ -1,6 +1,6 @@
 -- A frame with several faults: 01, "Numbered refusals", the order for a frame.
 use Prim.Native.Nat.{ℕ, _≤_}
-use mathlib.Core.Path.{_≡_, refl, sym, ap, _∙_}
+use mathlib.Core.Path.{_≡_, refl, sym, ap, subst, _∙_}
 use mathlib.Core.Bool.{Bool, true, false, cond, not, _&&_, _||_}
 use mathlib.Core.List.{List, [], _∷_}
 use native.Mathlib.Omega.{arith}
@@ -15,7 +15,7 @@ use Rattle.frame.specs.declared.judge.Route.{Route}
 use Rattle.frame.specs.declared.judge.Verdict.{Verdict}
 use Rattle.frame.specs.declared.judge.Verdict.the-variants as verdict
 use Rattle.frame.specs.declared.refusal.Refusal.{Refusal}
-use Rattle.frame.specs.declared.refusal.Refusal.the-variants.{FrameLength, IdentifierRange, NotTaken, TransferLength, NotReceivers, PgnForm, AnnouncementForm, TooLong, Assurance, KeyOpen, SlotsFull, OutOfBounds}
+use Rattle.frame.specs.declared.refusal.Refusal.the-variants.{FrameLength, IdentifierRange, NotTaken, TransferLength, NeitherTakes, KeyNotOpen, PgnForm, AnnouncementForm, TooLong, Assurance, KeyOpen, SlotsFull, OutOfBounds}
 use Rattle.frame.specs.Pgn.{pgnOk}
 use Rattle.multi_pg.specs.Groups.{GroupsRead, good, bad, groupsRead}
 use Rattle.transport.specs.Kinds.{isRts}
@@ -28,7 +28,7 @@ use Rattle.transport.specs.declared.segment.DataFrame.{DataFrame}
 use Rattle.transport.specs.declared.segment.DataFrame.the-variants as dataframe
 use Rattle.transport.specs.declared.Kind.the-variants.{Rts, Bam}
 use Rattle.transport.specs.declared.control.Control.the-variants as control
-use Rattle.transport.specs.Control.{controlOf}
+use Rattle.transport.specs.Control.{notReceivers, controlOf}
 use Rattle.transport.specs.Heads.{controlAt, keyOf}
 use Rattle.transport.specs.Announcements.{announcementAt}
 use Rattle.transport.specs.Eoms.{statusAt}
@@ -52,7 +52,7 @@ use Rattle.session.specs.Decisions.{ifOpen, rejection, acceptedIf, isRestart, o
 use Rattle.receiver.specs.declared.Receiver.{Receiver}
 use Rattle.receiver.specs.Calls.{Outcome, refused, announceStep, statusStep, abortStep, controlStep, onControl, segmentStep, onData, isReady, groupsStep, onVerdict, frameAll}
 use Rattle.isolation.specs.Standard.{fdLengths, isOneOf}
-use Rattle.isolation.specs.Faults.{isTakenHere, isCutShort, isNotReceivers, firstFault}
+use Rattle.isolation.specs.Faults.{isTakenHere, isCutShort, isNotReceivers, isSenders, firstFault}
 use Rattle.isolation.proofs.Tests.{and-left, and-right}
 use Rattle.isolation.proofs.Same.{length-same}
 use Rattle.isolation.proofs.Fit.{walk}
@@ -161,17 +161,28 @@ module _ (r : Receiver) (d m : List ℕ) where
   receivers : Bool
   receivers = isOneOf (controlAt d) (0 ∷ 2 ∷ 4 ∷ []) || (eqb (controlAt d) 15 && eqb (roleAt d) 0)
 
-  control-told : (κ : Key) → Told r m (cond (not (eqb (length d) 12)) 9 (cond (not receivers) 10 0)) (onControl (controlOf d) r κ, m)
+  -- 16 for a responder's frame, else 10
+  senders-number : numberOf (notReceivers d) ≡ cond (isSenders d) 16 10
+  unfolding isSenders isOneOf
+  senders-number = go (eqb (controlAt d) 1) (eqb (controlAt d) 3) (eqb (controlAt d) 15 && eqb (roleAt d) 1)
+    where
+      go : (a b x : Bool) → numberOf (cond (a || b || x) KeyNotOpen NeitherTakes) ≡ cond ((a || (b || false)) || x) 16 10
+      go true b x = refl
+      go false true x = refl
+      go false false true = refl
+      go false false false = refl
+
+  control-told : (κ : Key) → Told r m (cond (not (eqb (length d) 12)) 9 (cond (not receivers) (cond (isSenders d) 16 10) 0)) (onControl (controlOf d) r κ, m)
   unfolding controlOf announceStep statusStep abortStep isLater isOneOf receivers
   control-told κ =
       walk (λ (c : Control) (n : ℕ). Told r m n (onControl c r κ, m)) (not (eqb (length d) 12)) (not (eqb (length d) 12)) refl (λ _. at-fault TransferLength)
       (λ _. go (eqb (controlAt d) 0) (eqb (controlAt d) 4) (eqb (controlAt d) 2) (eqb (controlAt d) 15 && eqb (roleAt d) 0))
     where
       go : (a b s x : Bool)
-          → Told r m (cond (not ((a || (s || (b || false))) || x)) 10 0) (
+          → Told r m (cond (not ((a || (s || (b || false))) || x)) (cond (isSenders d) 16 10) 0) (
             onControl (cond a (control.Announce (announcementAt Rts d))
                 (cond b (control.Announce (announcementAt Bam d))
-                (cond s (control.EndOfMessage (statusAt d)) (cond x (control.Abort (abortPgnAt d)) (control.Refused NotReceivers))))) r κ,
+                (cond s (control.EndOfMessage (statusAt d)) (cond x (control.Abort (abortPgnAt d)) (control.Refused (notReceivers d)))))) r κ,
             m,
           )
       go true b s x = no-fault _ (announce-late _ _ κ _ (r .last))
@@ -179,7 +190,7 @@ module _ (r : Receiver) (d m : List ℕ) where
       go false true false x = no-fault _ (announce-late _ _ κ _ (r .last))
       go false false true x = no-fault _ (status-late _ _ _)
       go false false false true = no-fault _ (abort-late _ _)
-      go false false false false = at-fault NotReceivers
+      go false false false false = subst (λ (n : ℕ). Told r m n (refused r (notReceivers d), m)) senders-number (at-fault (notReceivers d))
 
   data-told : (κ : Key) → Told r m (cond (ltb (length d) 5) 9 0) (onData (dataFrameOf d) r κ d m)
   unfolding dataFrameOf segmentStep
@@ -189,7 +200,7 @@ module _ (r : Receiver) (d m : List ℕ) where
 
   -- by PF
   by-pf : (pf : ℕ) (ρ : Route)
-      → Told r m (cond (not (isOneOf pf (37 ∷ 77 ∷ 78 ∷ []))) 3 (cond (isCutShort pf (length d)) 9 (cond (isNotReceivers pf d) 10 0))) (onVerdict (byFormat pf ρ) r d m)
+      → Told r m (cond (not (isOneOf pf (37 ∷ 77 ∷ 78 ∷ []))) 3 (cond (isCutShort pf (length d)) 9 (cond (isNotReceivers pf d) (cond (isSenders d) 16 10) 0))) (onVerdict (byFormat pf ρ) r d m)
   unfolding byFormat controlStep isOneOf isCutShort isNotReceivers receivers
   by-pf pf ρ = go (eqb pf 37) (eqb pf 77) (eqb pf 78) refl refl refl
     where
@@ -198,7 +209,7 @@ module _ (r : Receiver) (d m : List ℕ) where
       alone false = refl
 
       go : (a b c : Bool) → eqb pf 37 ≡ a → eqb pf 77 ≡ b → eqb pf 78 ≡ c
-          → Told r m (cond (not (a || (b || (c || false)))) 3 (cond ((b && not (eqb (length d) 12)) || (c && ltb (length d) 5)) 9 (cond (b && not receivers) 10 0)))
+          → Told r m (cond (not (a || (b || (c || false)))) 3 (cond ((b && not (eqb (length d) 12)) || (c && ltb (length d) 5)) 9 (cond (b && not receivers) (cond (isSenders d) 16 10) 0)))
           (onVerdict (cond a (verdict.MultiPg ρ) (cond b (verdict.Control ρ) (cond c (verdict.Data ρ) (verdict.Refused NotTaken)))) r d m)
       go true b c e f g =
           let z : pf ≡ 37 = eqb-true pf 37 e in
@@ -224,8 +235,8 @@ split : (x y : Bool) (n : ℕ) → cond (not (x && y)) 3 n ≡ cond (not x) 3 (c
 split true y n = refl
 split false y n = refl
 
--- Every frame, on every record and with every buffer: of 23, 2, 1, 3, 9 and 10 the first that applies is answered and changes nothing;
--- where none of the six applies, none of the six is answered.
+-- Every frame, on every record and with every buffer: of 23, 2, 1, 3, 9, 16 for a sender's frame and 10 the first that applies is answered
+-- and changes nothing; where none applies, none of the six but 16 is answered.
 pub first-fault : (r : Receiver) (id : ℕ) (d m : List ℕ) → Told r m (firstFault (isReady r m) (r .own) id d) (frameAll r id d m)
 unfolding frameAll judged-frame firstFault isTakenHere isOneOf
 first-fault r id d m = go (isReady r m)
@@ -234,11 +245,11 @@ first-fault r id d m = go (isReady r m)
     P v n = Told r m n (onVerdict v r d m)
 
     routed : P (cond (not (routeTaken (r .own) (identifierOf id))) (verdict.Refused NotTaken) (byFormat (identifierOf id .pf) (routeOf (identifierOf id))))
-        (cond (not (isTakenHere (r .own) id)) 3 (cond (isCutShort (identifierOf id .pf) (length d)) 9 (cond (isNotReceivers (identifierOf id .pf) d) 10 0)))
+        (cond (not (isTakenHere (r .own) id)) 3 (cond (isCutShort (identifierOf id .pf) (length d)) 9 (cond (isNotReceivers (identifierOf id .pf) d) (cond (isSenders d) 16 10) 0)))
     routed =
         let t : Bool = eqb (identifierOf id .extended_data_page) 0 && eqb (identifierOf id .data_page) 0 && (eqb (identifierOf id .ps) (r .own .0) || eqb (identifierOf id .ps) 255) in
         rw (split (t && not (isOneOf (identifierOf id .sa .0) (254 ∷ 255 ∷ r .own .0 ∷ []))) (isOneOf (identifierOf id .pf) (37 ∷ 77 ∷ 78 ∷ []))
-        (cond (isCutShort (identifierOf id .pf) (length d)) 9 (cond (isNotReceivers (identifierOf id .pf) d) 10 0)))
+        (cond (isCutShort (identifierOf id .pf) (length d)) 9 (cond (isNotReceivers (identifierOf id .pf) d) (cond (isSenders d) 16 10) 0)))
         (walk P (not (routeTaken (r .own) (identifierOf id))) (not (t && not (isOneOf (identifierOf id .sa .0) (254 ∷ 255 ∷ r .own .0 ∷ []))))
         (ap not (route-same t (eqb (identifierOf id .sa .0) 254) (eqb (identifierOf id .sa .0) 255) (eqb (identifierOf id .sa .0) (r .own .0))))
         (λ _. at-fault r d m NotTaken) (λ _. by-pf r d m (identifierOf id .pf) (routeOf (identifierOf id))))

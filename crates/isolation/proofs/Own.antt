@@ -1,4 +1,4 @@
--- Own frames are what 01 says: control and data frames to which none of 2, 1, 3, 9 and 10 applies.
+-- Own frames are what 01 says: control and data frames to which none of 2, 1, 3, 9 and 10 applies, and that is not a sender's.
 use Prim.Native.Nat.{ℕ}
 use mathlib.Core.Path.{_≡_, refl, sym, ap, _∙_}
 use mathlib.Core.Bool.{Bool, true, false, cond, not, _&&_, _||_}
@@ -18,21 +18,22 @@ use Rattle.transport.specs.Segments.{formatAt, numberAt, dataAt}
 use Rattle.isolation.specs.Standard.{fdLengths, isOneOf}
 use Rattle.transport.specs.declared.Kind.the-variants.{Rts, Bam}
 use Rattle.isolation.specs.OwnFrames.{Body, announce, segment, status, abort, controlBody, dataBody, taken, bodyOf}
-use Rattle.isolation.specs.Faults.{isTakenHere, isCutShort, firstFault, isTransfer, isNotReceivers}
+use Rattle.isolation.specs.Faults.{isTakenHere, isCutShort, firstFault, isTransfer, isNotReceivers, isSenders}
 use Rattle.isolation.specs.Observe.{isBody}
 use Rattle.isolation.proofs.Same.{length-same}
 use Rattle.isolation.proofs.Read.{taken-same}
 use Rattle.isolation.proofs.Faults.{route-same}
 
--- ---- none of 2, 1, 3, 9 and 10
+-- ---- none of 2, 1, 3, 9, 16 for a sender's frame, and 10
 
-fault-free : (a b c s t : Bool) → eqb (cond a 2 (cond (not b) 1 (cond (not c) 3 (cond s 9 (cond t 10 0))))) 0 ≡ (not a && (b && (c && (not s && not t))))
-fault-free true b c s t = refl
-fault-free false false c s t = refl
-fault-free false true false s t = refl
-fault-free false true true true t = refl
-fault-free false true true false true = refl
-fault-free false true true false false = refl
+fault-free : (a b c s t u : Bool) → eqb (cond a 2 (cond (not b) 1 (cond (not c) 3 (cond s 9 (cond t (cond u 16 10) 0))))) 0 ≡ (not a && (b && (c && (not s && not t))))
+fault-free true b c s t u = refl
+fault-free false false c s t u = refl
+fault-free false true false s t u = refl
+fault-free false true true true t u = refl
+fault-free false true true false true true = refl
+fault-free false true true false true false = refl
+fault-free false true true false false u = refl
 
 -- pages, DA and SA
 abbrev routed : Address → ℕ → Bool
@@ -118,7 +119,7 @@ no-body : (t : Bool) → (t && false) ≡ false
 no-body true = refl
 no-body false = refl
 
--- A frame is a key's own exactly if it is a control or data frame to which none of 2, 1, 3, 9 and 10 applies.
+-- A frame is a key's own exactly if it is a control or data frame to which none of 2, 1, 3, 9 and 10 applies, and that is not a sender's.
 pub own-exactly : (own : Address) (id : ℕ) (d : List ℕ)
     → isBody (bodyOf own id d) ≡ (isTransfer id && eqb (firstFault true own id d) 0)
 unfolding firstFault isTakenHere isCutShort isTransfer isNotReceivers isOneOf
@@ -129,7 +130,7 @@ own-exactly own id d =
       control-is d,
       data-is d,
       fault-free (leb 536870912 id) (isOneOf (length d) fdLengths) (isTakenHere own id)
-          (isCutShort (identifierOf id .pf) (length d)) (isNotReceivers (identifierOf id .pf) d),
+          (isCutShort (identifierOf id .pf) (length d)) (isNotReceivers (identifierOf id .pf) d) (isSenders d),
     )
     (go (eqb (identifierOf id .pf) 37) (eqb (identifierOf id .pf) 77) (eqb (identifierOf id .pf) 78) refl refl refl)
   where

@@ -13,7 +13,7 @@ use Rattle.frame.specs.declared.judge.Route.{Route}
 use Rattle.frame.specs.declared.judge.Verdict.{Verdict}
 use Rattle.frame.specs.declared.judge.Verdict.the-variants as verdict
 use Rattle.frame.specs.declared.refusal.Refusal.{Refusal}
-use Rattle.frame.specs.declared.refusal.Refusal.the-variants.{FrameLength, IdentifierRange, NotTaken, TransferLength, NotReceivers}
+use Rattle.frame.specs.declared.refusal.Refusal.the-variants.{FrameLength, IdentifierRange, NotTaken, TransferLength, NeitherTakes, KeyNotOpen}
 use Rattle.frame.specs.Identifiers.{identifierOf}
 use Rattle.frame.specs.Lengths.{isLength}
 use Rattle.frame.specs.Judge.{routeTaken, byFormat, routeOf, judged}
@@ -27,7 +27,7 @@ use Rattle.answer.specs.Answers.{answerNumber, answerSends}
 use Rattle.transport.specs.declared.Key.{Key}
 use Rattle.transport.specs.declared.control.Control.{Control}
 use Rattle.transport.specs.declared.segment.DataFrame.the-variants as dataframe
-use Rattle.transport.specs.Control.{controlOf}
+use Rattle.transport.specs.Control.{isResponse, notReceivers, controlOf}
 use Rattle.transport.specs.Heads.{controlAt, sessionAt, keyOf}
 use Rattle.transport.specs.Aborts.{roleAt}
 use Rattle.transport.specs.Segments.{formatAt, numberAt, segmentAt, dataAt, dataFrameOf}
@@ -92,7 +92,11 @@ module _ (r : Receiver) (d m : List ℕ) (κ : Key) where
       (agree-control _ _ _ _ (eqb (controlAt d) 4) (record { does = (refl, tt) })
       (agree-control _ _ _ _ (eqb (controlAt d) 2) (record { does = (refl, tt) })
       (agree-control _ _ _ _ (eqb (controlAt d) 15 && eqb (roleAt d) 0) (record { does = (refl, tt) })
-      (record { does = foreign r m NotReceivers refl })))))
+      (record { does = foreign r m (notReceivers d) (mildly (isResponse d)) })))))
+    where
+      mildly : (t : Bool) → mild (numberOf (cond t KeyNotOpen NeitherTakes)) ≡ true
+      mildly true = refl
+      mildly false = refl
 
   data-agrees : Agrees r d m κ (onData (dataFrameOf d) r κ d m) (dataBody d)
   unfolding dataFrameOf dataBody segmentStep

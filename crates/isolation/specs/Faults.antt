@@ -1,5 +1,5 @@
 -- The faults that a frame can have whatever it carries, and their order: 01, "Identifier", the order for a frame in "Numbered
--- refusals", and "End" for 10.
+-- refusals", and "End" for 10; 02, E2, for 16.
 use Prim.Native.Nat.{ℕ, _^_}
 use mathlib.Core.Bool.{Bool, cond, not, _&&_, _||_}
 use mathlib.Core.List.{List, [], _∷_}
@@ -29,7 +29,11 @@ unfoldable pub isNotReceivers : ℕ → List ℕ → Bool
 isNotReceivers pf d =
     eqb pf 77 && not (isOneOf (controlAt d) (0 ∷ 2 ∷ 4 ∷ []) || (eqb (controlAt d) 15 && eqb (roleAt d) 0))
 
--- 23, 2, 1, 3, 9, then for a control frame 10: the number of the first that applies, 0 where none does. `ready`: record and store are
+-- a control frame that goes to a sender: CTS, EOMA, or an Abort in the responder's role
+unfoldable pub isSenders : List ℕ → Bool
+isSenders d = isOneOf (controlAt d) (1 ∷ 3 ∷ []) || (eqb (controlAt d) 15 && eqb (roleAt d) 1)
+
+-- 23, 2, 1, 3, 9, then for a control frame 16, since a receiver alone has no transfer, or 10 for what neither end takes: the number of the first that applies, 0 where none does. `ready`: record and store are
 -- in bounds
 unfoldable pub firstFault : Bool → Address → ℕ → List ℕ → ℕ
 firstFault ready own id d =
@@ -38,7 +42,7 @@ firstFault ready own id d =
     (cond (not (isOneOf (length d) fdLengths)) 1
     (cond (not (isTakenHere own id)) 3
     (cond (isCutShort (identifierOf id .pf) (length d)) 9
-    (cond (isNotReceivers (identifierOf id .pf) d) 10
+    (cond (isNotReceivers (identifierOf id .pf) d) (cond (isSenders d) 16 10)
     0)))))
     23
 

@@ -1,13 +1,12 @@
 -- Which end a frame is for, and what the node's frame call does: 02, E2.
 use Prim.Native.Nat.{ℕ}
-use mathlib.Core.Bool.{Bool, cond, not, _&&_, _||_}
+use mathlib.Core.Bool.{Bool, cond, not, _&&_}
 use mathlib.Core.List.{List}
 use lib.Dec.{eqb}
 use lib.ListN.{length}
 use Rattle.frame.specs.Identifiers.{identifierOf}
 use Rattle.frame.specs.declared.refusal.Refusal.the-variants.{OutOfBounds}
-use Rattle.transport.specs.Heads.{controlAt}
-use Rattle.transport.specs.Aborts.{roleAt}
+use Rattle.transport.specs.Control.{isResponse}
 use Rattle.answer.specs.declared.Answer.{Answer}
 use Rattle.answer.specs.declared.Answer.the-variants as answer
 use Rattle.lent_record.specs.Ready as receiver
@@ -19,12 +18,11 @@ use Rattle.sender.specs.Calls.{hearIn}
 use Rattle.node.specs.declared.NodeAnswer.{NodeAnswer}
 use Rattle.node.specs.declared.NodeAnswer.the-variants.{Receiver, Sender}
 
--- PF 77, 12 bytes: control 1 (CTS), 3 (EOMA), or 15 (Abort) in role 1
+-- PF 77, 12 bytes, a responder's
 abbrev pub isResponders : ℕ → List ℕ → Bool
 isResponders id d =
     eqb (length d) 12
-    && (eqb (identifierOf id .pf) 77
-    && (eqb (controlAt d) 1 || eqb (controlAt d) 3 || (eqb (controlAt d) 15 && eqb (roleAt d) 1)))
+    && (eqb (identifierOf id .pf) 77 && isResponse d)
 
 -- the answer; the receiver's record and store, and the sender's record
 abbrev pub NodeCalled : Type 0

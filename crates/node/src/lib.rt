@@ -5,6 +5,7 @@ use answer::Answer;
 use frame::identifier;
 use frame::refusal::Refusal;
 use transfer::Reply;
+use transport::control::is_response;
 
 // What a frame answers, and which end answered.
 pub enum NodeAnswer {
@@ -19,10 +20,7 @@ pub fn is_responders(id: u32, bytes: &[u8]) -> bool
     if bytes.len() != 12 {
         return false;
     }
-    let control = bytes[0] % 16;
-    let role = bytes[7] % 4;
-    (identifier::read(id).pf == 77)
-        & ((control == 1) | (control == 3) | ((control == 15) & (role == 1)))
+    (identifier::read(id).pf == 77) & is_response(bytes)
 }
 
 // Takes one frame: 23 for the receiver's record or its store, 23 for the sender's record, then by the end that the frame is for.

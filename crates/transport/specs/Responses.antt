@@ -5,7 +5,7 @@ use mathlib.Core.List.{List}
 use lib.Dec.{eqb}
 use lib.ListN.{length}
 use Rattle.frame.specs.declared.judge.Route.{Route}
-use Rattle.frame.specs.declared.refusal.Refusal.the-variants.{TransferLength, NotReceivers}
+use Rattle.frame.specs.declared.refusal.Refusal.the-variants.{TransferLength, NeitherTakes}
 use Rattle.transport.specs.declared.Key.{Key}
 use Rattle.transport.specs.declared.abort.Role.the-variants.{Responder}
 use Rattle.transport.specs.declared.response.ResponseRead.{ResponseRead}
@@ -32,7 +32,7 @@ responseId f = toOriginator (responseKey f)
 
 -- the responder's
 abbrev pub abortResponseOf : Key → List ℕ → ResponseRead
-abortResponseOf k d = cond (eqb (roleAt d) 1) (read.Abort (abortAt k d)) (read.Refused NotReceivers)
+abortResponseOf k d = cond (eqb (roleAt d) 1) (read.Abort (abortAt k d)) (read.Refused NeitherTakes)
 
 -- CTS 1, EOMA 3, Abort 15 from the responder; no other is a receiver's frame
 abbrev pub byResponse : Key → List ℕ → ℕ → ResponseRead
@@ -40,7 +40,7 @@ byResponse k d control =
     cond (eqb control 1) (read.Cts (ctsAt k d))
     (cond (eqb control 3) (read.Eoma (eomaAt k d))
     (cond (eqb control 15) (abortResponseOf k d)
-    (read.Refused NotReceivers)))
+    (read.Refused NeitherTakes)))
 
 unfoldable pub responseOf : Route → List ℕ → ResponseRead
 responseOf route d =

@@ -65,7 +65,7 @@ fn read_abort(key: Key, frame: &[u8]) -> ResponseRead
     if role_in(frame) == 1 {
         return ResponseRead::Abort(abort::read_abort(key, frame));
     }
-    ResponseRead::Refused(Refusal::NotReceivers)
+    ResponseRead::Refused(Refusal::NeitherTakes)
 }
 
 // What a responder's frame says, for the one who sent the message.
@@ -80,6 +80,6 @@ pub fn read_response(route: Route, frame: &[u8]) -> ResponseRead
         1 => ResponseRead::Cts(read_cts(key, frame)),
         3 => ResponseRead::Eoma(read_eoma(key, frame)),
         15 => read_abort(key, frame),
-        _ => ResponseRead::Refused(Refusal::NotReceivers),
+        _ => ResponseRead::Refused(Refusal::NeitherTakes),
     }
 }

@@ -9,7 +9,11 @@ fn main() {
     let archive = folder.join("libdwaebinam.a");
     println!("cargo:rerun-if-changed=build.rs");
     println!("cargo:rerun-if-changed={}", archive.display());
-    assert!(archive.exists(), "{} is not there: run `rt staticlib dwaebinam` at the repository's root", archive.display());
+    assert!(
+        archive.exists(),
+        "{} is not there: run `rt staticlib dwaebinam` at the repository's root",
+        archive.display()
+    );
     println!("cargo:rustc-link-search=native={}", folder.display());
     println!("cargo:rustc-link-lib=static=dwaebinam");
 }

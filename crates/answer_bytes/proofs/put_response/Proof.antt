@@ -1,5 +1,10 @@
+use Prim.Native.Nat.{ℕ, _+_}
+use mathlib.Core.Path.{ap₂, _∙_}
+use mathlib.Core.List.{List, _++_}
+use lib.Seq.{paste}
 use denote.Ref.{now}
-use Rattle.answer_bytes.proofs.Sent.{response-put}
+use Rattle.answer_bytes.specs.Places.{sentPlace, sentLength}
+use Rattle.answer_bytes.specs.Answers.{sentHead}
 use borrow.Author.Needs.{needs}
 use Rattle.answer_bytes.proofs.put_response.Statement.{statement}
 use Rattle.answer_bytes.proofs.put_response.Tie as tie
@@ -7,61 +12,24 @@ use Rattle.answer_bytes.proofs.put_response.Tie as tie
 bytes-requires : tie.Need-bytes-requires
 bytes-requires c κs = search needs
 
-add-copy : tie.Need-add-copy
-add-copy c = search needs
-
-slice-aggregate-copy : tie.Need-slice-aggregate-copy
-slice-aggregate-copy c = search needs
-
-copy-requires : tie.Need-copy-requires
-copy-requires c κs = search needs
-
-add-put-word : tie.Need-add-put-word
-add-put-word c = search needs
-
 identifier-requires : tie.Need-identifier-requires
 identifier-requires c κs = search needs
 
-put-word-requires : tie.Need-put-word-requires
-put-word-requires c κs = search needs
-
-add-copy-2 : tie.Need-add-copy-2
-add-copy-2 c = search needs
-
-slice-aggregate-copy-2 : tie.Need-slice-aggregate-copy-2
-slice-aggregate-copy-2 c = search needs
-
-copy-requires-2 : tie.Need-copy-requires-2
-copy-requires-2 c κs = search needs
+put-frame-requires : tie.Need-put-frame-requires
+put-frame-requires c κs = search needs
 
 same-length : tie.Need-same-length
 same-length c = search needs
 
 returns : tie.Need-returns
 returns c =
-    let third = c .before .before in
-    let second = third .before .before .before .before .before in
-    let id = second .before in
-    let first = id .before .before .before .before in
-    let bytes = first .before .before .before in
+    let put = c .before .before in
+    let id = put .before .before in
+    let bytes = id .before in
     let a = bytes .before .before .args in
-    response-put (a .f) (now (a .out)) (first .copy .last .0) (second .put-word .last .0) (third .copy2 .last .0)
-    (bytes .bytes .result) (a .at) (id .identifier .result) (search needs) (id .identifier .ensures) (bytes .bytes .ensures)
-    (first .copy .ensures) (second .put-word .ensures) (third .copy2 .ensures)
+    put .put-frame .ensures
+    ∙ ap₂ (λ (k : ℕ) (l : List ℕ). paste (now (a .out)) (a .at + sentPlace) (sentHead k ++ l) sentLength) (id .identifier .ensures) (bytes .bytes .ensures)
 
 pub put-response-spec : {M : Type 1} → statement M
 put-response-spec =
-    tie.close
-    (tie.spec
-    bytes-requires
-    add-copy
-    slice-aggregate-copy
-    copy-requires
-    add-put-word
-    identifier-requires
-    put-word-requires
-    add-copy-2
-    slice-aggregate-copy-2
-    copy-requires-2
-    same-length
-    returns)
+    tie.close (tie.spec bytes-requires identifier-requires put-frame-requires same-length returns)

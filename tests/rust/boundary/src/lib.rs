@@ -34,6 +34,61 @@ mod header {
             out: *mut u8,
             out_bytes: usize,
         ) -> usize;
+        pub fn dwb_sender_open(sender: *mut u8, sender_bytes: usize, own: u8, limit: u32, reading: u32) -> u8;
+        pub fn dwb_announce(
+            sender: *mut u8,
+            sender_bytes: usize,
+            da: u8,
+            session: u8,
+            pgn: u32,
+            message: *const u8,
+            message_bytes: usize,
+            frame: *mut u8,
+            frame_bytes: usize,
+            answer: *mut u8,
+            answer_bytes: usize,
+        ) -> u8;
+        pub fn dwb_next_frame(
+            sender: *mut u8,
+            sender_bytes: usize,
+            da: u8,
+            session: u8,
+            message: *const u8,
+            message_bytes: usize,
+            frame: *mut u8,
+            frame_bytes: usize,
+            answer: *mut u8,
+            answer_bytes: usize,
+        ) -> u8;
+        pub fn dwb_sender_frame(
+            sender: *mut u8,
+            sender_bytes: usize,
+            id: u32,
+            bytes: *const u8,
+            bytes_len: usize,
+            answer: *mut u8,
+            answer_bytes: usize,
+        ) -> u8;
+        pub fn dwb_sender_reading(
+            sender: *mut u8,
+            sender_bytes: usize,
+            reading: u32,
+            answers: *mut u8,
+            answers_bytes: usize,
+        ) -> u8;
+        pub fn dwb_node_frame(
+            record: *mut u8,
+            record_bytes: usize,
+            id: u32,
+            bytes: *const u8,
+            bytes_len: usize,
+            store: *mut u8,
+            store_bytes: usize,
+            sender: *mut u8,
+            sender_bytes: usize,
+            answer: *mut u8,
+            answer_bytes: usize,
+        ) -> u8;
         pub fn dwb_groups(bytes: *const u8, bytes_len: usize, groups: *mut u32, groups_words: usize) -> usize;
         pub fn dwb_pack(
             pgns: *const u32,
@@ -49,7 +104,7 @@ mod header {
 }
 
 /// DWB_VERSION of the header that these declarations are of.
-pub const VERSION: u32 = 1;
+pub const VERSION: u32 = 2;
 
 pub fn version() -> u32 {
     unsafe { header::dwb_version() }
@@ -96,6 +151,98 @@ pub fn reading(record: &mut [u8], reading: u32, store: &[u8], answers: &mut [u8]
 pub fn message(answer: &[u8], store: &[u8], out: &mut [u8]) -> usize {
     unsafe {
         header::dwb_message(answer.as_ptr(), answer.len(), store.as_ptr(), store.len(), out.as_mut_ptr(), out.len())
+    }
+}
+
+pub fn sender_open(sender: &mut [u8], own: u8, limit: u32, reading: u32) -> u8 {
+    unsafe { header::dwb_sender_open(sender.as_mut_ptr(), sender.len(), own, limit, reading) }
+}
+
+pub fn announce(
+    sender: &mut [u8],
+    da: u8,
+    session: u8,
+    pgn: u32,
+    message: &[u8],
+    frame: &mut [u8],
+    answer: &mut [u8],
+) -> u8 {
+    unsafe {
+        header::dwb_announce(
+            sender.as_mut_ptr(),
+            sender.len(),
+            da,
+            session,
+            pgn,
+            message.as_ptr(),
+            message.len(),
+            frame.as_mut_ptr(),
+            frame.len(),
+            answer.as_mut_ptr(),
+            answer.len(),
+        )
+    }
+}
+
+pub fn next_frame(sender: &mut [u8], da: u8, session: u8, message: &[u8], frame: &mut [u8], answer: &mut [u8]) -> u8 {
+    unsafe {
+        header::dwb_next_frame(
+            sender.as_mut_ptr(),
+            sender.len(),
+            da,
+            session,
+            message.as_ptr(),
+            message.len(),
+            frame.as_mut_ptr(),
+            frame.len(),
+            answer.as_mut_ptr(),
+            answer.len(),
+        )
+    }
+}
+
+pub fn sender_frame(sender: &mut [u8], id: u32, bytes: &[u8], answer: &mut [u8]) -> u8 {
+    unsafe {
+        header::dwb_sender_frame(
+            sender.as_mut_ptr(),
+            sender.len(),
+            id,
+            bytes.as_ptr(),
+            bytes.len(),
+            answer.as_mut_ptr(),
+            answer.len(),
+        )
+    }
+}
+
+pub fn sender_reading(sender: &mut [u8], reading: u32, answers: &mut [u8]) -> u8 {
+    unsafe {
+        header::dwb_sender_reading(sender.as_mut_ptr(), sender.len(), reading, answers.as_mut_ptr(), answers.len())
+    }
+}
+
+pub fn node_frame(
+    record: &mut [u8],
+    id: u32,
+    bytes: &[u8],
+    store: &mut [u8],
+    sender: &mut [u8],
+    answer: &mut [u8],
+) -> u8 {
+    unsafe {
+        header::dwb_node_frame(
+            record.as_mut_ptr(),
+            record.len(),
+            id,
+            bytes.as_ptr(),
+            bytes.len(),
+            store.as_mut_ptr(),
+            store.len(),
+            sender.as_mut_ptr(),
+            sender.len(),
+            answer.as_mut_ptr(),
+            answer.len(),
+        )
     }
 }
 

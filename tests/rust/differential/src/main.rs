@@ -17,8 +17,27 @@ use std::time::Instant;
 
 const SEEDS: [u64; 4] = [1, 22, 333, 4444];
 const LEAST_CALLS: u64 = 1_000_000;
-const CODES: [&str; 10] =
-    ["", "groups", "opened", "taken", "grant", "handed over", "aborted", "ended", "refused RTS", "refused"];
+const CODES: [&str; 19] = [
+    "",
+    "groups",
+    "opened",
+    "taken",
+    "grant",
+    "handed over",
+    "aborted",
+    "ended",
+    "refused RTS",
+    "refused",
+    "announced",
+    "segment sent",
+    "status sent",
+    "nothing due",
+    "CTS taken",
+    "acknowledged",
+    "transfer aborted",
+    "transfer ended",
+    "refused by the sender",
+];
 
 /// What failed, to be told at the end.
 #[derive(Default)]
@@ -82,19 +101,20 @@ fn run_kind(kind: &traffic::Kind, number: u64, faults: &mut Faults) -> Tally {
     tally
 }
 
-/// The sender's network over all seeds, without loss and with losses.
+/// The network of sender and receiver over all seeds, without loss and with losses.
 fn run_network(whole: &mut Tally, faults: &mut Faults) {
     let mut counts = Counts::default();
     let before = faults.0.len();
     for seed in SEEDS {
         let mut random = Random::new(seed << 8 | 0xFF);
-        let mut pair = Pair::new(&mut random);
-        let verdict = network::without_loss(&mut pair, &mut random, &mut counts)
-            .and_then(|()| network::with_losses(&mut pair, &mut random, &mut counts));
+        let mut ends = [Pair::new(&mut random), Pair::new(&mut random)];
+        let verdict = network::without_loss(&mut ends, &mut random, &mut counts)
+            .and_then(|()| network::with_losses(&mut ends, &mut random, &mut counts));
+        let calls = ends.each_ref().map(|end| end.tally.calls);
         if let Err(difference) = verdict {
-            faults.add(format!("network, seed {seed}, call {}: {}", pair.tally.calls, difference.0));
+            faults.add(format!("network, seed {seed}, calls {calls:?}: {}", difference.0));
         }
-        whole.add(&pair.tally);
+        ends.iter().for_each(|end| whole.add(&end.tally));
     }
     println!("{}", counts.line());
     if faults.0.len() == before {
@@ -125,7 +145,7 @@ fn run_samples(whole: &mut Tally, faults: &mut Faults) -> u64 {
 }
 
 fn print_tally(name: &str, tally: &Tally) {
-    let refused: Vec<String> = (1..25)
+    let refused: Vec<String> = (1..tally.numbers.len())
         .filter(|&number| tally.numbers[number] > 0)
         .map(|number| format!("{number}:{}", tally.numbers[number]))
         .collect();

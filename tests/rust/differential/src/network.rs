@@ -1,46 +1,35 @@
-//! A sender of the rules and a receiver at another address, over two queues that keep order. The receiver is a pair: the archive's and
-//! that of the rules, compared at every frame. Without loss every message arrives, equal and once, and nothing is refused. With losses
+//! A sender and a receiver at another address, over two queues that keep order. Both are the archive's, and each is a pair: the rules go
+//! along with it, compared at every call. Without loss every message arrives, equal and once, and nothing is refused. With losses
 //! nothing is handed over that was not announced under its key, and no announcement twice; there a key is used again only when the
-//! queues are empty and what it stood for has ended at both ends.
+//! queues are empty and what it stood for has ended at both ends. Either end may be a node, which takes its frames by the node's call.
 
+mod announced;
 mod counts;
+mod end;
+mod third;
 
 use crate::pair::{expect, Difference, Given, Pair, Verdict};
 use crate::random::Random;
-use crate::sender::good_pgn;
+use crate::sender::{good_pgn, Frame};
+use announced::{length, Announced, EDGES};
 pub use counts::Counts;
 use counts::Met;
+use end::{slack, start, End};
 use rules::calls::Code;
-use rules::frame::GLOBAL;
+use rules::frame::{number24, GLOBAL};
 use rules::receiver::segments_of;
-use rules::sending::{Ending, Event, Frame, Sender, TRANSFERS};
+use rules::sending::TRANSFERS;
 use std::collections::VecDeque;
-use std::ops::Range;
+use third::Third;
+
+/// The pairs of the sender's and the receiver's end.
+pub type Ends = [Pair; 2];
 
 /// Announcements for one seed.
 const WITHOUT_LOSS: u64 = 2_700;
-const WITH_LOSSES: u64 = 2_000;
+const WITH_LOSSES: u64 = 4_000;
 /// Turns without an announcement after which the network stands still.
 const PATIENCE: u64 = 1_000_000;
-const EDGES: [usize; 7] = [1, 59, 60, 61, 960, 961, 4096];
-
-/// A message that was announced, and how far it has come.
-struct Announced {
-    destination: u8,
-    session: u8,
-    pgn: u32,
-    message: Vec<u8>,
-    /// What the sender was granted and has not sent; in a broadcast all.
-    due: Range<u32>,
-    /// The last segment sent.
-    out: u32,
-    /// The sender's last reading before the latest frame that it sent or took.
-    mark: u32,
-    arrived: bool,
-    /// At the sender.
-    is_open: bool,
-    ended_well: bool,
-}
 
 #[derive(Clone, Copy)]
 enum Turn {
@@ -50,19 +39,25 @@ enum Turn {
     ToSender,
     SendersClock,
     ReceiversClock,
+    Third,
 }
 
-const TURNS: [Turn; 6] =
-    [Turn::Announce, Turn::Ask, Turn::ToReceiver, Turn::ToSender, Turn::SendersClock, Turn::ReceiversClock];
+const TURNS: [Turn; 7] = [
+    Turn::Announce,
+    Turn::Ask,
+    Turn::ToReceiver,
+    Turn::ToSender,
+    Turn::SendersClock,
+    Turn::ReceiversClock,
+    Turn::Third,
+];
 
 struct Network<'a> {
-    pair: &'a mut Pair,
+    sender: End<'a>,
+    receiver: End<'a>,
+    third: Third,
     random: &'a mut Random,
     counts: &'a mut Counts,
-    own: u8,
-    limit: u32,
-    clock: u32,
-    sender: Sender,
     to_receiver: VecDeque<Frame>,
     to_sender: VecDeque<Frame>,
     /// Since the queues were last empty and nothing open.
@@ -73,20 +68,20 @@ struct Network<'a> {
     silence: (usize, usize),
 }
 
-pub fn without_loss(pair: &mut Pair, random: &mut Random, counts: &mut Counts) -> Verdict<()> {
+pub fn without_loss(ends: &mut Ends, random: &mut Random, counts: &mut Counts) -> Verdict<()> {
     let mut announced = 0;
     while announced < WITHOUT_LOSS {
         let wanted = random.between(1, 60);
-        Network::new(pair, random, counts)?.run(wanted)?;
+        Network::new(ends, random, counts)?.run(wanted)?;
         announced += wanted as u64;
     }
     Ok(())
 }
 
-pub fn with_losses(pair: &mut Pair, random: &mut Random, counts: &mut Counts) -> Verdict<()> {
+pub fn with_losses(ends: &mut Ends, random: &mut Random, counts: &mut Counts) -> Verdict<()> {
     let mut announced = 0;
     while announced < WITH_LOSSES {
-        let mut network = Network::new(pair, random, counts)?;
+        let mut network = Network::new(ends, random, counts)?;
         for _ in 0..5 {
             network.loss = network.random.pick(&[3, 20, 100, 500]);
             network.silence = (network.random.pick(&[8, 50, 400]), network.random.pick(&[50, 400, 4_000]));
@@ -98,53 +93,24 @@ pub fn with_losses(pair: &mut Pair, random: &mut Random, counts: &mut Counts) ->
     Ok(())
 }
 
-fn length(random: &mut Random) -> usize {
-    match random.below(4) {
-        0 | 1 => random.pick(&EDGES),
-        2 => random.between(1, 300),
-        _ => random.between(1, 4096),
-    }
-}
-
-/// 1 to 60,000; the edges come often.
-fn limit(random: &mut Random) -> u32 {
-    if random.once_in(3) {
-        random.pick(&[1, 2, 1_250, 60_000])
-    } else {
-        random.between_u32(1, 60_000)
-    }
-}
-
-/// How far a clock may go on from `last` before the first of these marks is a silence; none where there is no mark.
-fn slack(last: u32, limit: u32, marks: impl Iterator<Item = u32>) -> Option<u32> {
-    marks.map(|mark| limit - 1 - last.wrapping_sub(mark)).min()
+fn answered(given: Option<Given>) -> Verdict<Given> {
+    given.ok_or_else(|| Difference("no answer was lent".into()))
 }
 
 impl<'a> Network<'a> {
-    fn new(pair: &'a mut Pair, random: &'a mut Random, counts: &'a mut Counts) -> Verdict<Network<'a>> {
-        let own = random.below(254) as u8;
-        // Adding 1 to 253 to an address, modulo 254, never gives it again.
-        let senders_own = ((usize::from(own) + random.between(1, 253)) % 254) as u8;
-        let (limit, clock) = (limit(random), start(random));
-        pair.open(own, limit, clock)?;
-        let (sender, _) = Sender::open(senders_own, self::limit(random), start(random));
+    fn new(ends: &'a mut Ends, random: &'a mut Random, counts: &'a mut Counts) -> Verdict<Network<'a>> {
+        let own = random.below(254);
+        // Adding 1 to 253 to an address, modulo 254, never gives it again; the two that are added here differ.
+        let on = random.between(1, 253);
+        let on_third = (on - 1 + random.between(1, 252)) % 253 + 1;
+        let [other, third] = [on, on_third].map(|on| ((own + on) % 254) as u8);
+        let [sending, receiving] = ends;
+        let sender = End::new(sending, random, own as u8)?;
+        let receiver = End::new(receiving, random, other)?;
+        let third = Third::new(random, third, sender.own);
         let (to_receiver, to_sender) = (VecDeque::new(), VecDeque::new());
-        let announced = Vec::new();
-        let (loss, silence) = (0, (0, 0));
-        Ok(Network {
-            pair,
-            random,
-            counts,
-            own,
-            limit,
-            clock,
-            sender,
-            to_receiver,
-            to_sender,
-            announced,
-            loss,
-            silence,
-        })
+        let (announced, loss, silence) = (Vec::new(), 0, (0, 0));
+        Ok(Network { sender, receiver, third, random, counts, to_receiver, to_sender, announced, loss, silence })
     }
 
     /// So many announcements, and all that comes of them.
@@ -164,9 +130,10 @@ impl<'a> Network<'a> {
                 Turn::ToSender => self.sender_takes()?,
                 Turn::SendersClock => self.senders_clock()?,
                 Turn::ReceiversClock => self.receivers_clock()?,
+                Turn::Third => self.third_takes_part()?,
             }
             idle = if self.announced.len() > announced { 0 } else { idle + 1 };
-            expect(idle < PATIENCE, || format!("nothing comes to an end: {:?}", self.sender))?;
+            expect(idle < PATIENCE, || format!("nothing comes to an end: {:?}", self.sender.pair.sender_state()))?;
         }
         self.drain()?;
         if self.loss > 0 {
@@ -176,7 +143,7 @@ impl<'a> Network<'a> {
     }
 
     fn announce(&mut self) -> Verdict<()> {
-        let destination = if self.random.once_in(3) { GLOBAL } else { self.own };
+        let destination = if self.random.once_in(3) { GLOBAL } else { self.receiver.own };
         let session = self.random.below(16) as u8;
         let is_used = |a: &Announced| (a.destination, a.session) == (destination, session);
         let is_free = if self.loss > 0 {
@@ -184,34 +151,36 @@ impl<'a> Network<'a> {
         } else {
             !self.announced.iter().any(|a| a.is_open && is_used(a))
         };
-        let open = self.announced.iter().filter(|a| a.is_open).count();
+        let open = self.open().len();
         if !is_free || open == TRANSFERS {
             return Ok(());
         }
         let (pgn, length) = (good_pgn(self.random), length(self.random));
         let message = self.random.bytes(length);
-        let answer = self.sender.announce(destination, session, pgn, &message);
-        expect(answer.event == Event::Announced, || format!("an announcement: {answer:?}"))?;
-        self.to_receiver.extend(answer.frame);
-        let due = if destination == GLOBAL { 1..segments_of(length as u32) + 1 } else { 0..0 };
-        let (out, mark) = (0, self.sender.last_reading);
-        let (arrived, is_open, ended_well) = (false, true, false);
-        self.announced.push(Announced {
-            destination,
-            session,
-            pgn,
-            message,
-            due,
-            out,
-            mark,
-            arrived,
-            is_open,
-            ended_well,
-        });
+        let given = answered(self.sender.pair.announce(destination, session, pgn, &message)?)?;
+        expect(given.is(Code::Announced), || format!("an announcement: {:02X?}", given.0))?;
+        self.give_out(&given);
+        self.announced.push(Announced::new(destination, session, pgn, message, self.sender.clock));
         if open + 1 == TRANSFERS {
             self.counts.add(Met::FourOpen);
         }
-        self.sender_in_bounds()
+        Ok(())
+    }
+
+    /// The frame that is in the sender's buffer.
+    fn give_out(&mut self, given: &Given) {
+        self.to_receiver.extend(self.sender.pair.frame_in_buffer(given));
+    }
+
+    /// At an end that is a node.
+    fn third_takes_part(&mut self) -> Verdict<()> {
+        if self.sender.is_node && self.third.sends(&mut self.sender, self.random)? {
+            self.counts.add(Met::ThirdToNode);
+        }
+        if self.receiver.is_node && self.third.gets(&mut self.receiver, self.random)? {
+            self.counts.add(Met::NodeToThird);
+        }
+        Ok(())
     }
 
     fn open(&self) -> Vec<usize> {
@@ -229,34 +198,28 @@ impl<'a> Network<'a> {
 
     /// Asks for a frame of this transfer: whether one went out.
     fn ask(&mut self, i: usize) -> Verdict<bool> {
-        let before = self.sender.clone();
         let a = &mut self.announced[i];
-        let answer = self.sender.next_frame(a.destination, a.session, &a.message);
+        let given = answered(self.sender.pair.next_frame(a.destination, a.session, &a.message)?)?;
         let all_out = a.out == segments_of(a.message.len() as u32) && a.due.is_empty();
-        let is_right = match answer.event {
-            Event::Segment(n) => {
-                a.out = n;
-                a.due.next() == Some(n)
-            }
-            Event::Status => a.destination != GLOBAL && all_out,
-            Event::EndedWell => {
-                (a.is_open, a.ended_well) = (false, true);
-                a.destination == GLOBAL && all_out
-            }
-            Event::NothingDue => {
-                self.counts.add(Met::NothingDue);
-                a.due.is_empty() && self.sender == before
-            }
-            _ => false,
+        let by_bam = a.destination == GLOBAL;
+        let has_frame = given.0[19] == 1;
+        let is_right = if given.is(Code::SegmentSent) {
+            a.out = given.word(15);
+            has_frame && a.due.next() == Some(a.out)
+        } else if given.is(Code::StatusSent) {
+            // A broadcast's ends it.
+            (a.is_open, a.ended_well) = (!by_bam, by_bam);
+            has_frame && all_out
+        } else {
+            self.counts.add(Met::NothingDue);
+            given.is(Code::NothingDue) && !has_frame && a.due.is_empty()
         };
-        expect(is_right, || format!("asked for a frame: {answer:?} of {before:?}"))?;
-        let has_frame = answer.frame.is_some();
         if has_frame {
-            a.mark = before.last_reading;
+            a.mark = self.sender.clock;
         }
-        expect(has_frame == (answer.event != Event::NothingDue), || format!("asked for a frame: {answer:?}"))?;
-        self.to_receiver.extend(answer.frame);
-        self.sender_in_bounds()?;
+        let told = || format!("asked for a frame: {:02X?} of {:?}", given.0, self.sender.pair.sender_state());
+        expect(is_right, told)?;
+        self.give_out(&given);
         Ok(has_frame)
     }
 
@@ -275,7 +238,7 @@ impl<'a> Network<'a> {
         if self.is_lost(Met::DroppedToReceiver) {
             return Ok(());
         }
-        let given = self.pair.frame(frame.id, &frame.bytes)?;
+        let given = self.taken_by_receiver(&frame)?;
         let number = given.number();
         match number {
             0 => {}
@@ -296,6 +259,24 @@ impl<'a> Network<'a> {
         Ok(())
     }
 
+    fn taken_by_receiver(&mut self, Frame { id, bytes }: &Frame) -> Verdict<Given> {
+        if self.receiver.is_node {
+            self.counts.add(Met::TakenByNode);
+            self.receiver.pair.node_frame(*id, bytes)
+        } else {
+            self.receiver.pair.frame(*id, bytes)
+        }
+    }
+
+    fn taken_by_sender(&mut self, Frame { id, bytes }: &Frame) -> Verdict<Given> {
+        if self.sender.is_node {
+            self.counts.add(Met::ReplyTakenByNode);
+            self.sender.pair.node_frame(*id, bytes)
+        } else {
+            answered(self.sender.pair.sender_frame(*id, bytes)?)
+        }
+    }
+
     fn reply(&mut self, given: &Given) {
         if let Some((id, bytes)) = given.sent() {
             self.to_sender.push_back(Frame { id, bytes: bytes.to_vec() });
@@ -309,7 +290,7 @@ impl<'a> Network<'a> {
         let told = || format!("a message to {destination} in session {session} was handed over but not announced");
         let a = a.ok_or_else(|| Difference(told()))?;
         let length = given.word(11) as usize;
-        let is_equal = sa == self.sender.own && given.word(7) == a.pgn && self.pair.out(length) == a.message;
+        let is_equal = sa == self.sender.own && given.word(7) == a.pgn && self.receiver.pair.out(length) == a.message;
         expect(is_equal, || format!("a message of {length} bytes is not the one announced"))?;
         a.arrived = true;
         Ok(())
@@ -322,38 +303,33 @@ impl<'a> Network<'a> {
         if self.is_lost(Met::DroppedToSender) {
             return Ok(());
         }
-        let before = self.sender.clone();
-        let answer = self.sender.control_frame(frame.id, &frame.bytes);
-        let (sa, session) = (frame.id as u8, frame.bytes[0] >> 4);
-        let a = self.announced.iter_mut().find(|a| a.is_open && (a.destination, a.session) == (sa, session));
-        let is_right = match (answer.event, a) {
-            (Event::Granted { next, count }, Some(a)) => {
-                a.due = next..next + u32::from(count);
-                a.mark = before.last_reading;
+        let given = self.taken_by_sender(&frame)?;
+        let key = (frame.id as u8, frame.bytes[0] >> 4);
+        let a = self.announced.iter_mut().find(|a| a.is_open && (a.destination, a.session) == key);
+        let is_right = match a {
+            Some(a) if given.is(Code::CtsTaken) => {
+                let next = number24(&frame.bytes[4..7]);
+                a.due = next..next + u32::from(frame.bytes[7]);
+                a.mark = self.sender.clock;
                 true
             }
-            (Event::EndedWell, Some(a)) => {
+            Some(a) if given.is(Code::Acknowledged) => {
                 (a.is_open, a.ended_well) = (false, true);
                 a.arrived
             }
-            (Event::Aborted, Some(a)) => {
+            Some(a) if given.is(Code::TransferAborted) => {
                 self.counts.add(Met::AbortedByResponder);
                 a.is_open = false;
                 self.loss > 0
             }
-            (Event::Refused(_), None) => {
+            Some(_) => false,
+            None => {
                 self.counts.add(Met::TooLateToSender);
-                self.loss > 0 && answer.number() == 16 && self.sender == before
+                self.loss > 0 && given.number() == 16
             }
-            _ => false,
         };
-        expect(is_right, || format!("{frame:02X?} brought {answer:?} of {before:?}"))?;
-        expect(answer.frame.is_none(), || format!("{frame:02X?} was answered: {answer:?}"))?;
-        self.sender_in_bounds()
-    }
-
-    fn sender_in_bounds(&self) -> Verdict<()> {
-        expect(self.sender.in_bounds(), || format!("the sender is out of bounds: {:?}", self.sender))
+        expect(is_right, || format!("{frame:02X?} was answered by {:02X?}", given.0))?;
+        expect(given.sent().is_none(), || format!("{frame:02X?} was answered: {:02X?}", given.0))
     }
 
     /// How far a clock goes on. Without loss nothing may end.
@@ -379,45 +355,51 @@ impl<'a> Network<'a> {
     }
 
     fn senders_clock(&mut self) -> Verdict<()> {
-        let Sender { limit, last_reading, .. } = self.sender;
-        let marks = self.announced.iter().filter(|a| a.is_open).map(|a| a.mark);
-        let slack = slack(last_reading, limit, marks);
-        let passed = self.passed(last_reading, limit, slack, self.silence.0);
+        let End { limit, clock, .. } = self.sender;
+        let slack = slack(clock, limit, self.announced.iter().filter(|a| a.is_open).map(|a| a.mark));
+        let passed = self.passed(clock, limit, slack, self.silence.0);
         self.senders_reading(passed)
     }
 
     fn senders_reading(&mut self, passed: u32) -> Verdict<()> {
-        let reading = self.sender.last_reading.wrapping_add(passed);
-        let endings = self.sender.reading(reading).map_err(|refusal| Difference(format!("a reading: {refusal:?}")))?;
-        let endings: Vec<Ending> = endings.into_iter().flatten().collect();
+        let reading = self.sender.clock.wrapping_add(passed);
+        self.sender.clock = reading;
+        let (number, given) = self.sender.pair.sender_reading(reading)?;
+        expect(number == 0, || format!("the sender's reading {reading} was refused with {number}"))?;
+        let ended: Vec<Given> = given.into_iter().filter(|ending| ending.code() != 0).collect();
         for a in self.announced.iter_mut().filter(|a| a.is_open) {
-            let is_it = |e: &&Ending| (e.transfer.destination, e.transfer.session) == (a.destination, a.session);
-            let ending = endings.iter().find(is_it);
+            let key = [self.sender.own, a.destination, a.session];
+            let ending = ended.iter().find(|ending| ending.0[2..5] == key);
             let is_due = reading.wrapping_sub(a.mark) >= self.sender.limit;
-            expect(ending.is_some() == is_due, || format!("reading {reading}, mark {}: {ending:?}", a.mark))?;
+            expect(ending.is_some() == is_due, || {
+                format!("reading {reading}, mark {}: {key:?} ended: {}", a.mark, !is_due)
+            })?;
             let Some(ending) = ending else {
                 continue;
             };
             let by_bam = a.destination == GLOBAL;
-            expect(ending.frame.is_none() == by_bam, || format!("reading {reading}: {ending:?}"))?;
+            let is_right = ending.is(Code::TransferEnded) && ending.sent().is_none() == by_bam;
+            expect(is_right, || format!("reading {reading}: {:02X?}", ending.0))?;
             a.is_open = false;
             self.counts.add(if by_bam { Met::SilentBroadcast } else { Met::SilentRts });
-            self.to_receiver.extend(ending.frame.clone());
+            let abort = ending.sent().map(|(id, bytes)| Frame { id, bytes: bytes.to_vec() });
+            self.to_receiver.extend(abort);
         }
-        expect(endings.is_empty() || self.loss > 0, || "a transfer ended by silence".into())?;
-        self.sender_in_bounds()
+        expect(ended.is_empty() || self.loss > 0, || "a transfer ended by silence".into())
     }
 
     fn receivers_clock(&mut self) -> Verdict<()> {
-        let slots = self.pair.state().map(|state| state.slots).unwrap_or_default();
-        let slack = slack(self.clock, self.limit, slots.iter().flatten().map(|session| session.mark));
-        let passed = self.passed(self.clock, self.limit, slack, self.silence.1);
+        let slots = self.receiver.pair.state().map(|state| state.slots).unwrap_or_default();
+        let End { limit, clock, .. } = self.receiver;
+        let slack = slack(clock, limit, slots.iter().flatten().map(|session| session.mark));
+        let passed = self.passed(clock, limit, slack, self.silence.1);
         self.receivers_reading(passed)
     }
 
     fn receivers_reading(&mut self, passed: u32) -> Verdict<()> {
-        self.clock = self.clock.wrapping_add(passed);
-        let (_, endings) = self.pair.reading(self.clock)?;
+        self.receiver.clock = self.receiver.clock.wrapping_add(passed);
+        let (number, endings) = self.receiver.pair.reading(self.receiver.clock)?;
+        expect(number == 0, || format!("the receiver's reading was refused with {number}"))?;
         for ending in endings.iter().filter(|ending| ending.code() != 0) {
             expect(self.loss > 0, || "a session ended by silence".into())?;
             self.counts.add(Met::SilentSession);
@@ -452,7 +434,7 @@ impl<'a> Network<'a> {
             if senders {
                 self.senders_reading(self.sender.limit)?;
             } else {
-                self.receivers_reading(self.limit)?;
+                self.receivers_reading(self.receiver.limit)?;
             }
             self.drain()?;
         }
@@ -460,8 +442,8 @@ impl<'a> Network<'a> {
     }
 
     fn finish(&mut self) -> Verdict<()> {
-        let sessions = self.pair.state().map_or(0, |state| state.slots.iter().flatten().count());
-        let transfers = self.sender.transfers.iter().flatten().count();
+        let sessions = self.receiver.pair.state().map_or(0, |state| state.slots.iter().flatten().count());
+        let transfers = self.sender.pair.sender_state().transfers.iter().flatten().count();
         expect(sessions == 0 && transfers == 0, || format!("{sessions} sessions, {transfers} transfers stay open"))?;
         for a in self.announced.drain(..) {
             let (by_bam, length) = (a.destination == GLOBAL, a.message.len());
@@ -482,14 +464,5 @@ impl<'a> Network<'a> {
             }
         }
         Ok(())
-    }
-}
-
-/// Where a clock begins; often just before it runs round.
-fn start(random: &mut Random) -> u32 {
-    if random.once_in(2) {
-        u32::MAX - random.below(50_000) as u32
-    } else {
-        random.u32()
     }
 }

@@ -1,15 +1,37 @@
 //! Both sides of the comparison: each call is made through the rules and through the archive, on buffers that were equal before it, and
 //! everything it could have touched is compared after it: number, every lent buffer, and the bytes around each.
 
+/// After a call on both sides: these buffers are the same on both.
+macro_rules! same {
+    ($pair:ident, $call:expr, $($buffer:ident),*) => {
+        $(if let Some(difference) = $pair.rules.$buffer.difference(&$pair.archive.$buffer) {
+            return Err(Difference(format!("{}: {} {difference}", $call(), stringify!($buffer))));
+        })*
+    };
+}
+
+mod sending;
+
 use crate::random::Random;
 use crate::repeats::{self, Form, Watch};
 use rules::calls::{self, Code, ANSWERS_BYTES, ANSWER_BYTES, GROUPS_WORDS, RECORD_BYTES};
 use rules::receiver::{Receiver, STORE_BYTES};
+use rules::sender_calls::{self, FRAME_BYTES, SENDER_BYTES, TRANSFER_ANSWERS_BYTES};
 use std::fmt::{Debug, Display};
 
 /// Bytes before and behind each lent buffer, which no call may touch.
 const GUARD: usize = 64;
-const LARGEST: Sizes = Sizes { record: 300, store: 36_864, answer: 80, answers: 400, groups: 64, out: 5_000 };
+const LARGEST: Sizes = Sizes {
+    record: 300,
+    store: 36_864,
+    answer: 80,
+    answers: 400,
+    groups: 64,
+    out: 5_000,
+    sender: 160,
+    frame: 128,
+    transfer_answers: 200,
+};
 
 /// How many bytes (or words) of each buffer are lent.
 #[derive(Clone, Copy, Debug)]
@@ -20,6 +42,9 @@ pub struct Sizes {
     pub answers: usize,
     pub groups: usize,
     pub out: usize,
+    pub sender: usize,
+    pub frame: usize,
+    pub transfer_answers: usize,
 }
 
 pub const RIGHT: Sizes = Sizes {
@@ -29,6 +54,9 @@ pub const RIGHT: Sizes = Sizes {
     answers: ANSWERS_BYTES,
     groups: GROUPS_WORDS,
     out: 64,
+    sender: SENDER_BYTES,
+    frame: FRAME_BYTES,
+    transfer_answers: TRANSFER_ANSWERS_BYTES,
 };
 
 struct Buffer<T> {
@@ -69,6 +97,12 @@ struct Calls {
     message: fn(&[u8], &[u8], &mut [u8]) -> usize,
     groups: fn(&[u8], &mut [u32]) -> usize,
     pack: fn(&[u32], &[u8], &[u8], &mut [u8]) -> usize,
+    sender_open: fn(&mut [u8], u8, u32, u32) -> u8,
+    announce: fn(&mut [u8], u8, u8, u32, &[u8], &mut [u8], &mut [u8]) -> u8,
+    next_frame: fn(&mut [u8], u8, u8, &[u8], &mut [u8], &mut [u8]) -> u8,
+    sender_frame: fn(&mut [u8], u32, &[u8], &mut [u8]) -> u8,
+    sender_reading: fn(&mut [u8], u32, &mut [u8]) -> u8,
+    node_frame: fn(&mut [u8], u32, &[u8], &mut [u8], &mut [u8], &mut [u8]) -> u8,
 }
 
 const RULES: Calls = Calls {
@@ -79,6 +113,12 @@ const RULES: Calls = Calls {
     message: calls::message,
     groups: calls::groups,
     pack: calls::pack,
+    sender_open: sender_calls::sender_open,
+    announce: sender_calls::announce,
+    next_frame: sender_calls::next_frame,
+    sender_frame: sender_calls::sender_frame,
+    sender_reading: sender_calls::sender_reading,
+    node_frame: sender_calls::node_frame,
 };
 
 const ARCHIVE: Calls = Calls {
@@ -89,6 +129,12 @@ const ARCHIVE: Calls = Calls {
     message: boundary::message,
     groups: boundary::groups,
     pack: boundary::pack,
+    sender_open: boundary::sender_open,
+    announce: boundary::announce,
+    next_frame: boundary::next_frame,
+    sender_frame: boundary::sender_frame,
+    sender_reading: boundary::sender_reading,
+    node_frame: boundary::node_frame,
 };
 
 struct Side {
@@ -99,6 +145,9 @@ struct Side {
     answers: Buffer<u8>,
     groups: Buffer<u32>,
     out: Buffer<u8>,
+    sender: Buffer<u8>,
+    frame: Buffer<u8>,
+    transfer_answers: Buffer<u8>,
 }
 
 impl Side {
@@ -111,6 +160,9 @@ impl Side {
             answers: Buffer::new(LARGEST.answers, 0xC4),
             groups: Buffer::new(LARGEST.groups, 0xC5C5_C5C5),
             out: Buffer::new(LARGEST.out, 0xC6),
+            sender: Buffer::new(LARGEST.sender, 0xC7),
+            frame: Buffer::new(LARGEST.frame, 0xC8),
+            transfer_answers: Buffer::new(LARGEST.transfer_answers, 0xC9),
         }
     }
 }
@@ -134,9 +186,10 @@ pub fn expect(holds: bool, what: impl FnOnce() -> String) -> Verdict<()> {
 pub struct Tally {
     pub calls: u64,
     /// By number of the refusal; at 0 the calls that refused nothing.
-    pub numbers: [u64; 25],
+    pub numbers: [u64; 28],
     /// By code of the answer.
-    pub codes: [u64; 10],
+    pub codes: [u64; 19],
+    /// Frames that an answer says are to be sent.
     pub sent: u64,
     pub messages: u64,
     pub groups: u64,
@@ -191,14 +244,6 @@ impl Given {
     pub fn sent(&self) -> Option<(u32, &[u8])> {
         (self.0[19] == 1).then(|| (self.word(20), &self.0[24..]))
     }
-}
-
-macro_rules! same {
-    ($pair:ident, $call:expr, $($buffer:ident),*) => {
-        $(if let Some(difference) = $pair.rules.$buffer.difference(&$pair.archive.$buffer) {
-            return Err(Difference(format!("{}: {} {difference}", $call(), stringify!($buffer))));
-        })*
-    };
 }
 
 fn hex(bytes: &[u8]) -> String {
@@ -329,6 +374,11 @@ impl Pair {
     /// A frame with all that belongs to its answer: the groups it carries, the message it hands over.
     pub fn frame(&mut self, id: u32, bytes: &[u8]) -> Verdict<Given> {
         let given = self.frame_raw(id, bytes)?.ok_or_else(|| Difference("no answer was lent".into()))?;
+        self.what_belongs_to(&given, bytes)?;
+        Ok(given)
+    }
+
+    fn what_belongs_to(&mut self, given: &Given, bytes: &[u8]) -> Verdict<()> {
         if given.is(Code::Groups) {
             let count = self.groups(bytes)?;
             expect(count <= 16, || format!("frame {} was taken, its groups were not", hex(bytes)))?;
@@ -340,7 +390,7 @@ impl Pair {
             expect(copied == length, || format!("of {length} bytes handed over, {copied} were copied"))?;
             self.tally.messages += 1;
         }
-        Ok(given)
+        Ok(())
     }
 
     /// The number, and the eight answers where they were lent whole.

@@ -1,4 +1,5 @@
-//! Originators: transfers, and the frames that they bring. Layouts by Figures 31, 33, 35, 36 and 37, written apart from the rules.
+//! Originators other than ours: transfers, and the frames that they bring. Layouts by Figures 31, 33, 35, 36 and 37, written apart from
+//! the rules.
 
 use crate::random::Random;
 
@@ -7,7 +8,7 @@ pub const CONTROL: u8 = 77;
 pub const DATA: u8 = 78;
 pub const CAN_LENGTHS: [usize; 16] = [0, 1, 2, 3, 4, 5, 6, 7, 8, 12, 16, 20, 24, 32, 48, 64];
 
-#[derive(Clone, Debug)]
+#[derive(Clone, Debug, Default)]
 pub struct Frame {
     pub id: u32,
     pub bytes: Vec<u8>,

@@ -1,4 +1,5 @@
-//! The calls of include/dwaebinam.h on byte slices, over the rules: the layouts of record and answer, and what a call leaves alone.
+//! The receiver's calls of include/dwaebinam.h on byte slices, over the rules: the layouts of record and answer, and what a call leaves
+//! alone.
 
 use crate::frame::{self, DATA_LENGTHS};
 use crate::groups;
@@ -119,11 +120,11 @@ fn refused(refusal: Refusal) -> usize {
     256 * usize::from(refusal.number())
 }
 
-fn word(bytes: &[u8]) -> u32 {
+pub(crate) fn word(bytes: &[u8]) -> u32 {
     u32::from_le_bytes([bytes[0], bytes[1], bytes[2], bytes[3]])
 }
 
-fn put_word(bytes: &mut [u8], number: u32) {
+pub(crate) fn put_word(bytes: &mut [u8], number: u32) {
     bytes[..4].copy_from_slice(&number.to_le_bytes());
 }
 
@@ -176,7 +177,7 @@ pub fn write_record(receiver: &Receiver) -> [u8; RECORD_BYTES] {
 }
 
 /// The bytes of a slot in which nothing happened stay, those of a free slot too.
-fn write_changes(record: &mut [u8], before: &Receiver, after: &Receiver) {
+pub(crate) fn write_changes(record: &mut [u8], before: &Receiver, after: &Receiver) {
     write_head(record, after);
     for (i, bytes) in record[HEAD_BYTES..].chunks_exact_mut(SLOT_RECORD_BYTES).enumerate() {
         match &after.slots[i] {
@@ -213,6 +214,7 @@ fn write_session(bytes: &mut [u8], session: &Session) {
     put_word(&mut bytes[26..], session.mark);
 }
 
+/// Up to 9 the receiver's, from 10 on the sender's.
 #[derive(Clone, Copy, Debug, PartialEq, Eq)]
 #[repr(u8)]
 pub enum Code {
@@ -225,6 +227,15 @@ pub enum Code {
     Ended = 7,
     RefusedRts = 8,
     Refused = 9,
+    Announced = 10,
+    SegmentSent = 11,
+    StatusSent = 12,
+    NothingDue = 13,
+    CtsTaken = 14,
+    Acknowledged = 15,
+    TransferAborted = 16,
+    TransferEnded = 17,
+    SenderRefused = 18,
 }
 
 /// The 36 bytes of an answer. The header says which byte a field stands in, not which answers have it: OPENED and ABORTED have the key
@@ -275,12 +286,12 @@ fn put_fields(bytes: &mut [u8], answer: &Answer) {
     }
 }
 
-fn put_key(bytes: &mut [u8], code: Code, key: Key) {
+pub(crate) fn put_key(bytes: &mut [u8], code: Code, key: Key) {
     bytes[1] = code as u8;
     bytes[2..5].copy_from_slice(&[key.sa, key.da, key.session]);
 }
 
-fn put_kind_and_pgn(bytes: &mut [u8], kind: Kind, pgn: u32) {
+pub(crate) fn put_kind_and_pgn(bytes: &mut [u8], kind: Kind, pgn: u32) {
     bytes[5] = kind_code(kind);
     put_word(&mut bytes[7..], pgn);
 }

@@ -21,6 +21,12 @@ pub fn number24(bytes: &[u8]) -> u32 {
     u32::from(bytes[0]) | u32::from(bytes[1]) << 8 | u32::from(bytes[2]) << 16
 }
 
+/// Whether a control frame, of 12 bytes, is one that goes to a sender: CTS, EOMA, or an Abort in the responder's role.
+pub fn is_reply(bytes: &[u8]) -> bool {
+    let (control, role) = (bytes[0] & 0xF, bytes[7] & 0b11);
+    control == 1 || control == 3 || (control == 15 && role == 1)
+}
+
 /// What a frame that this layer takes may carry.
 #[derive(Clone, Copy, Debug, PartialEq, Eq)]
 pub enum Carried {

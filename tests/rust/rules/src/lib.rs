@@ -1,14 +1,16 @@
-//! The scope document's rules (01), as request E1 (02) has changed them, and the sender of request E2, once more in plain Rust: written
-//! from the papers and sharing nothing with the crates that are proved. The differential run holds the two against each other. Clear
-//! before fast: a call is a few searches over eight slots.
+//! The scope document's rules (01), as requests E1 and E2 (02) have changed them, once more in plain Rust: written from the papers and
+//! sharing nothing with the crates that are proved. The differential run holds the two against each other. Clear before fast: a call
+//! is a few searches over eight slots or four transfers.
 //!
-//! `receiver` is the receiver over a typed state, `calls` the same through the byte layouts of include/dwaebinam.h; `sending` is the
-//! sender over a typed state.
+//! `receiver` is the receiver over a typed state, `sending` the sender, `node` both at one address. `calls` and `sender_calls` are the
+//! same through the byte layouts of include/dwaebinam.h.
 
 pub mod calls;
 pub mod frame;
 pub mod groups;
+pub mod node;
 pub mod receiver;
+pub mod sender_calls;
 pub mod sending;
 pub mod sent;
 

@@ -1,6 +1,7 @@
-//! 01 "Transfer frames" and "Life of a session", with E1 of 02: the receiver over a typed state.
+//! 01 "Transfer frames" and "Life of a session", with E1 of 02, and E2 as far as a receiver by itself meets it: the receiver over a
+//! typed state.
 
-use crate::frame::{self, is_pgn, is_taken, number24, Carried, Route, GLOBAL};
+use crate::frame::{self, is_pgn, is_reply, is_taken, number24, Carried, Route, GLOBAL};
 use crate::{groups, Refusal};
 
 pub const SLOTS: usize = 8;
@@ -238,6 +239,8 @@ impl Receiver {
             2 => self.end_of_message(key, bytes),
             4 => self.announcement(key, Kind::Bam, bytes),
             15 if role == 0 => self.abort(key, bytes),
+            // 02 E2: a receiver by itself has no transfer.
+            _ if is_reply(bytes) => Err(Refusal::KeyNotOpen),
             _ => Err(Refusal::ControlNotTaken),
         }
     }

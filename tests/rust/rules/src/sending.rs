@@ -7,7 +7,8 @@ use crate::sent::{low24, wire_reason};
 use crate::Refusal;
 
 pub const TRANSFERS: usize = 4;
-const CONTROL: u32 = 77;
+/// PF of control frames.
+pub(crate) const CONTROL: u32 = 77;
 const DATA: u32 = 78;
 /// 001, 6.3.3.2.
 const PADDING: u8 = 0xAA;
@@ -77,6 +78,8 @@ pub enum Event {
 #[derive(Clone, Debug, PartialEq, Eq)]
 pub struct Answer {
     pub event: Event,
+    /// The transfer that the answer is about, as it was after an announcement and before any other call.
+    pub transfer: Option<Transfer>,
     pub frame: Option<Frame>,
 }
 
@@ -95,16 +98,16 @@ impl Answer {
         }
     }
 
-    fn alone(event: Event) -> Answer {
-        Answer { event, frame: None }
+    fn alone(event: Event, transfer: Transfer) -> Answer {
+        Answer { event, transfer: Some(transfer), frame: None }
     }
 
-    fn with(event: Event, frame: Frame) -> Answer {
-        Answer { event, frame: Some(frame) }
+    fn with(event: Event, transfer: Transfer, frame: Frame) -> Answer {
+        Answer { event, transfer: Some(transfer), frame: Some(frame) }
     }
 
-    fn refused(refusal: Refusal) -> Answer {
-        Answer::alone(Event::Refused(refusal))
+    pub(crate) fn refused(refusal: Refusal) -> Answer {
+        Answer { event: Event::Refused(refusal), transfer: None, frame: None }
     }
 }
 
@@ -166,7 +169,7 @@ impl Sender {
         }
     }
 
-    fn find(&self, destination: u8, session: u8) -> Option<(usize, Transfer)> {
+    pub(crate) fn find(&self, destination: u8, session: u8) -> Option<(usize, Transfer)> {
         let is_it = |transfer: &Transfer| transfer.destination == destination && transfer.session == session;
         let place = self.transfers.iter().position(|place| place.as_ref().is_some_and(is_it))?;
         Some((place, self.transfers[place]?))
@@ -206,7 +209,7 @@ impl Sender {
             mark: self.last_reading,
         };
         self.transfers[place] = Some(transfer);
-        Ok(Answer::with(Event::Announced, self.announcement(&transfer)))
+        Ok(Answer::with(Event::Announced, transfer, self.announcement(&transfer)))
     }
 
     /// The next frame of a transfer, whose message is lent again.
@@ -220,12 +223,13 @@ impl Sender {
         if message.len() != transfer.total_bytes as usize {
             return Err(Refusal::LentMessageLength);
         }
-        if transfer.next <= transfer.granted {
-            Ok(self.give_segment(place, transfer, message))
-        } else if transfer.status_owed {
+        // No run of calls leaves an EOMS owed beside an open grant, but a record may say so: then the EOMS goes out first.
+        if transfer.status_owed {
             Ok(self.give_status(place, transfer))
+        } else if transfer.next <= transfer.granted {
+            Ok(self.give_segment(place, transfer, message))
         } else {
-            Ok(Answer::alone(Event::NothingDue))
+            Ok(Answer::alone(Event::NothingDue, transfer))
         }
     }
 
@@ -236,22 +240,22 @@ impl Sender {
         self.transfers[place] = Some(Transfer {
             next: n + 1,
             last_out,
-            status_owed: transfer.status_owed || (spends_the_grant && last_out),
+            status_owed: spends_the_grant && last_out,
             mark: self.last_reading,
             ..transfer
         });
-        Answer::with(Event::Segment(n), self.segment(&transfer, n, message))
+        Answer::with(Event::Segment(n), transfer, self.segment(&transfer, n, message))
     }
 
     fn give_status(&mut self, place: usize, transfer: Transfer) -> Answer {
         let frame = self.status(&transfer);
         if transfer.is_broadcast() {
             self.transfers[place] = None;
-            return Answer::with(Event::EndedWell, frame);
+            return Answer::with(Event::EndedWell, transfer, frame);
         }
         let mark = self.last_reading;
         self.transfers[place] = Some(Transfer { status_out: true, status_owed: false, mark, ..transfer });
-        Answer::with(Event::Status, frame)
+        Answer::with(Event::Status, transfer, frame)
     }
 
     /// Takes a control frame of a responder.
@@ -275,7 +279,7 @@ impl Sender {
                 Reply::Eoma => self.acknowledgment(place, transfer, bytes),
                 Reply::Abort => {
                     self.transfers[place] = None;
-                    Ok(Answer::alone(Event::Aborted))
+                    Ok(Answer::alone(Event::Aborted, transfer))
                 }
             },
             _ => Err(Refusal::KeyNotOpen),
@@ -314,12 +318,12 @@ impl Sender {
             if next == 0 || granted > transfer.segments() {
                 self.transfers[place] = None;
                 let refusal = Refusal::SegmentNotInMessage;
-                return Answer::with(Event::Ended(refusal), self.abort(&transfer, refusal));
+                return Answer::with(Event::Ended(refusal), transfer, self.abort(&transfer, refusal));
             }
             (Transfer { next, granted, status_owed: false, ..held }, Event::Granted { next, count })
         };
         self.transfers[place] = Some(forward);
-        Answer::alone(event)
+        Answer::alone(event, transfer)
     }
 
     fn acknowledgment(&mut self, place: usize, transfer: Transfer, bytes: &[u8]) -> Result<Answer, Refusal> {
@@ -328,7 +332,7 @@ impl Sender {
             return Err(Refusal::KeyNotOpen);
         }
         self.transfers[place] = None;
-        Ok(Answer::alone(Event::EndedWell))
+        Ok(Answer::alone(Event::EndedWell, transfer))
     }
 
     /// Takes a reading of the clock: what ends with 22, place by place.

@@ -8,7 +8,8 @@ use Rattle.answer_bytes.specs.declared.Fields.{Fields}
 use Rattle.answer_bytes.specs.Places.{answerLength}
 use Rattle.answer_bytes.specs.Answers.{fieldsBytes, sentBytes}
 use Rattle.answer_bytes.specs.Ends.{endBytes}
-use Rattle.answer_bytes.proofs.Sent.{fields-put}
+use Rattle.answer_bytes.specs.Sizes.{length-sent}
+use Rattle.answer_bytes.specs.Puts.{fields-put}
 use borrow.Author.Needs.{needs}
 use Rattle.answer_bytes.proofs.ends.put_end.Statement.{statement}
 use Rattle.answer_bytes.proofs.ends.put_end.Tie as tie
@@ -60,7 +61,8 @@ returns-2 c =
     let known = fields .before .before in
     let a = known .before .before .before .args in
     let d = now (a .out) in
-    fields-put (fields .ended-fields .result) (response .response-of-end .result) d (put .put-fields .last .1 .0) (sent .put-sending .last .1 .0) (a .at)
+    let s = response .response-of-end .result in
+    fields-put (fields .ended-fields .result) (sentBytes s) (length-sent s) d (put .put-fields .last .1 .0) (sent .put-sending .last .1 .0) (a .at)
     (search needs) (put .put-fields .ensures) (sent .put-sending .ensures)
     ∙ ap₂ (λ (f : Fields) (s : Sending). paste d (a .at) (fieldsBytes f ++ sentBytes s) answerLength) (fields .ended-fields .ensures) (response .response-of-end .ensures)
     ∙ ap (λ (e : End). paste d (a .at) (endBytes e) answerLength) (sym (known .end .given .1))

@@ -4,8 +4,9 @@ use mathlib.Core.List.{_++_}
 use lib.ListN.{length, take, drop}
 use native.Mathlib.Omega.{arith}
 use Rattle.answer_bytes.specs.Places.{answersLength, answerPlace}
-use Rattle.answer_bytes.specs.Ends.{endsBytes}
-use Rattle.answer_bytes.proofs.Turns.{ends-turn, ends-long, ends-all}
+use Rattle.answer_bytes.specs.Ends.{endBytes, endsBytes}
+use Rattle.answer_bytes.specs.EndLaws.{length-end}
+use Rattle.answer_bytes.specs.Turns.{ends-turn, ends-long, ends-all}
 use borrow.Author.Needs.{needs}
 use Rattle.answer_bytes.proofs.ends.write_ends.Statement.{statement}
 use Rattle.answer_bytes.proofs.ends.write_ends.Tie as tie
@@ -49,9 +50,9 @@ loop-again c =
     let e = put .put-end .ensures in
     let o = put .put-end .last .1 .0 in (
       search needs,
-      ends-long (a .t1) (at .out) o (at .i) _ (at .inv .0) (at .inv .1) (search needs) e,
+      ends-long endBytes length-end (a .t1) 8 (at .out) o (at .i) _ (at .inv .0) (at .inv .1) (search needs) e,
       search needs,
-      ends-turn (a .t1) (at .out) o (at .i) _ (at .inv .0) (at .inv .1) (search needs) e (at .inv .3),
+      ends-turn endBytes length-end (a .t1) 8 (at .out) o (at .i) _ (at .inv .0) (at .inv .1) (search needs) e (at .inv .3),
     )
 
 same-length : tie.Need-same-length Inv-loop μ-loop
@@ -60,7 +61,7 @@ same-length c = search needs
 returns : tie.Need-returns Inv-loop μ-loop
 returns c =
     let at = c .before .loop in
-    ends-all (c .before .before .before .args .t1) (at .out) _ (at .i) (at .inv .0) (at .inv .1) (omega arith) (at .inv .3)
+    ends-all endBytes (c .before .before .before .args .t1) 8 (at .out) _ (at .i) (at .inv .0) (at .inv .1) (omega arith) (at .inv .3)
 
 pub write-ends-spec : {M : Type 1} → statement M
 write-ends-spec =

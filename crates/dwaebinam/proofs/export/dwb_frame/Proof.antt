@@ -1,27 +1,18 @@
-use mathlib.Core.Path.{_≡_, refl, sym, ap, _∙_}
-use mathlib.Core.Bool.{not}
-use lib.Dec.{eqb}
-use lib.ListN.{length}
+use Prim.Native.Nat.{ℕ}
+use mathlib.Core.List.{List}
 use denote.Ref.{now}
-use borrow.Author.Tests.{ne-eqb}
-use Rattle.laws.specs.Choice.{then}
+use Rattle.answer.specs.Answers.{answerNumber}
 use Rattle.answer_bytes.specs.Places.{answerLength}
+use Rattle.answer_bytes.specs.Answers.{answerBytes}
 use Rattle.dwaebinam.specs.Calls.{framedIn}
-use Rattle.dwaebinam.proofs.Exports.{framed-put}
+use Rattle.dwaebinam.proofs.Answered.{no-room, answered}
 use borrow.Author.Needs.{needs}
 use Rattle.dwaebinam.proofs.export.dwb_frame.Statement.{statement}
 use Rattle.dwaebinam.proofs.export.dwb_frame.Tie as tie
-use Rattle.dwaebinam.proofs.export.dwb_frame.Reads as reads
-use Rattle.dwaebinam.proofs.export.dwb_frame.Lts as lts
-use Rattle.answer_bytes.proofs.write_answer.Reads as write-answer-reads
-use Rattle.engine.proofs.call.take_frame.Reads as take-frame-reads
-use Rattle.answer.proofs.number.Reads as number-reads
 
 returns : tie.Need-returns
 unfolding framedIn
-returns c =
-    let a = now (c .before .before .before .before .before .args .answer) in
-    then (not (eqb (length a) answerLength)) _ _ _ (ap not (ne-eqb _ _ (c .if1 .taken))) refl
+returns c = no-room (now (c .before .before .before .before .before .args .answer)) answerLength _ _ (c .if1 .taken)
 
 take-frame-requires : tie.Need-take-frame-requires
 take-frame-requires c κs = search needs
@@ -42,15 +33,14 @@ same-length-3 : tie.Need-same-length-3
 same-length-3 c = search needs
 
 returns-2 : tie.Need-returns-2
+unfolding framedIn
 returns-2 c =
-    let at-write-answer = c .before .before .before in
-    let at-take-frame = at-write-answer .before .before .before .before .before .before in
-    let at-if1 = at-take-frame .before .before .before in
-    let start = at-if1 .before .before .before .before .before in
-    framed-put (now (start .args .buffer)) (start .args .id) (now (start .args .bytes)) (now (start .args .store)) (now (start .args .answer))
-    (at-take-frame .take-frame .result) _ (at-take-frame .take-frame .last .0) (at-take-frame .take-frame .last .1 .1 .1 .0)
-    (at-write-answer .write-answer .last .1 .0) (at-if1 .if1 .left) (at-take-frame .take-frame .ensures) (at-write-answer .write-answer .ensures)
-    (c .number .ensures)
+    let wrote = c .before .before .before in
+    let took = wrote .before .before .before .before .before .before in
+    let tested = took .before .before .before in
+    let a = tested .before .before .before .before .before .args in
+    answered (now (a .answer)) answerLength (λ (k : ℕ) (l : List ℕ) (y : List ℕ × List ℕ). (k, (y .0, (y .1, l)))) answerNumber answerBytes
+    _ _ _ _ _ _ (tested .if1 .left) (took .take-frame .ensures) (c .number .ensures) (wrote .write-answer .ensures)
 
 pub dwb-frame-spec : {M : Type 1} → statement M
 dwb-frame-spec =

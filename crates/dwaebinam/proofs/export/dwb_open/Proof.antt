@@ -1,28 +1,19 @@
-use mathlib.Core.Path.{_≡_, refl, sym, ap, _∙_}
-use mathlib.Core.Bool.{not}
-use lib.Dec.{eqb}
-use lib.ListN.{length}
+use mathlib.Core.Path.{ap, _∙_}
 use denote.Ref.{now}
-use borrow.Author.Tests.{ne-eqb}
-use Rattle.laws.specs.Choice.{then}
 use Rattle.receiver.specs.declared.Opened.{Opened}
 use Rattle.answer.specs.Answers.{acceptanceNumber}
 use Rattle.receiver.specs.Bounds.{opened}
 use Rattle.dwaebinam.specs.Calls.{openedIn}
+use Rattle.dwaebinam.proofs.Answered.{no-room}
 use Rattle.dwaebinam.proofs.Exports.{opened-put}
 use borrow.Author.Needs.{needs}
 use Rattle.dwaebinam.proofs.export.dwb_open.Statement.{statement}
 use Rattle.dwaebinam.proofs.export.dwb_open.Tie as tie
-use Rattle.dwaebinam.proofs.export.dwb_open.Reads as reads
-use Rattle.dwaebinam.proofs.export.dwb_open.Lts as lts
-use Rattle.answer.proofs.acceptance_number.Reads as acceptance-number-reads
 use Rattle.record_bytes.specs.Places.{recordLength}
-use Rattle.record_bytes.proofs.layout.write_record.Reads as write-record-reads
-use Rattle.receiver.proofs.Receiver.open.Reads as open-reads
 
 returns : tie.Need-returns
 unfolding openedIn
-returns c = then (not (eqb (length (now (c .before .before .args .buffer))) recordLength)) _ _ _ (ap not (ne-eqb _ _ (c .if1 .taken))) refl
+returns c = no-room (now (c .before .before .args .buffer)) recordLength _ _ (c .if1 .taken)
 
 open-requires : tie.Need-open-requires
 open-requires c κs = search needs

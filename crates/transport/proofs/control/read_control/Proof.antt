@@ -6,10 +6,9 @@ use lib.Dec.{eqb}
 use lib.ListN.{length}
 use borrow.Author.Tests.{eq-eqb, ne-eqb}
 use Rattle.laws.specs.Choice.{then, else, and-stop}
-use Rattle.frame.specs.declared.refusal.Refusal.the-variants.{NotReceivers}
 use Rattle.transport.specs.declared.control.Control.{Control}
 use Rattle.transport.specs.declared.control.Control.the-variants.{Announce, EndOfMessage, Refused}
-use Rattle.transport.specs.Control.{byControl, controlOf}
+use Rattle.transport.specs.Control.{notReceivers, byControl, controlOf}
 use Rattle.transport.specs.Heads.{controlAt}
 use Rattle.transport.specs.Aborts.{roleAt}
 use borrow.Author.Needs.{needs}
@@ -18,6 +17,7 @@ use Rattle.transport.proofs.control.read_control.Tie as tie
 use Rattle.transport.proofs.control.read_control.Reads as reads
 use Rattle.transport.proofs.control.read_control.Lts as lts
 use Rattle.transport.proofs.control.read_abort.Reads as read-abort-reads
+use Rattle.transport.proofs.control.not_receivers.Reads as not-receivers-reads
 use Rattle.transport.proofs.announcement.read_announcement.Reads as read-announcement-reads
 use Rattle.transport.proofs.eoms.read_status.Reads as read-status-reads
 
@@ -25,7 +25,7 @@ with-control : (d : List ℕ) (n : ℕ) (r : Control) → length d ≡ 12 → co
 unfolding controlOf
 with-control d n r l k e = else (not (eqb (length d) 12)) r _ _ (ap not (eq-eqb (length d) 12 l)) (e ∙ ap (byControl d) (sym k))
 
-with-other : (d : List ℕ) (n : ℕ) → (n ≡ 0 → ⊥) → (n ≡ 4 → ⊥) → (n ≡ 2 → ⊥) → (n ≡ 15 → ⊥) → Refused NotReceivers ≡ byControl d n
+with-other : (d : List ℕ) (n : ℕ) → (n ≡ 0 → ⊥) → (n ≡ 4 → ⊥) → (n ≡ 2 → ⊥) → (n ≡ 15 → ⊥) → Refused (notReceivers d) ≡ byControl d n
 with-other d n a b e f =
     else (eqb n 0) _ _ _ (ne-eqb n 0 a)
     (else (eqb n 4) _ _ _ (ne-eqb n 4 b)
@@ -51,6 +51,9 @@ read-status-requires c κs = search needs
 read-abort-requires : tie.Need-read-abort-requires
 read-abort-requires c κs = search needs
 
+not-receivers-requires : tie.Need-not-receivers-requires
+not-receivers-requires c κs = search needs
+
 returns-2 : tie.Need-returns-2
 returns-2 c = with-control _ 0 _ (c .before .before .before .if1 .left) (c .before .match .keys1) (ap Announce (c .read-announcement .ensures))
 
@@ -65,8 +68,10 @@ returns-5 c = with-control _ 15 _ (c .before .before .before .if1 .left) (c .bef
 
 returns-6 : tie.Need-returns-6
 returns-6 c =
-    let start = c .before .before .before .before in
-    with-control _ _ _ (c .before .before .if1 .left) refl (with-other (start .args .bytes .now) _ (c .match .rest .0 .0 .0 .1) (c .match .rest .0 .0 .1) (c .match .rest .0 .1) (c .match .rest .1))
+    let start = c .before .before .before .before .before in
+    let other = c .before .match .rest in
+    with-control _ _ _ (c .before .before .before .if1 .left) refl
+    (ap Refused (c .not-receivers .ensures) ∙ with-other (start .args .bytes .now) _ (other .0 .0 .0 .1) (other .0 .0 .1) (other .0 .1) (other .1))
 
 pub read-control-spec : {M : Type 1} → statement M
 read-control-spec =
@@ -78,6 +83,7 @@ read-control-spec =
     read-announcement-requires-2
     read-status-requires
     read-abort-requires
+    not-receivers-requires
     returns-2
     returns-3
     returns-4

@@ -7,7 +7,7 @@ use lib.ListN.{length}
 use borrow.Author.Tests.{eq-eqb, ne-eqb}
 use Rattle.laws.specs.Choice.{then, else}
 use Rattle.frame.specs.declared.judge.Route.{Route}
-use Rattle.frame.specs.declared.refusal.Refusal.the-variants.{NotReceivers}
+use Rattle.frame.specs.declared.refusal.Refusal.the-variants.{NeitherTakes}
 use Rattle.transport.specs.Heads.{controlAt, sessionKeyOf}
 use Rattle.transport.specs.declared.Key.{Key}
 use Rattle.transport.specs.declared.response.ResponseRead.{ResponseRead}
@@ -29,7 +29,7 @@ with-control route d k n r l ke ce e =
     else (not (eqb (length d) 12)) r _ _ (ap not (eq-eqb (length d) 12 l))
     (e ∙ ap (λ (x : Key). byResponse x d n) ke ∙ ap (byResponse (sessionKeyOf route d) d) (sym ce))
 
-with-other : (k : Key) (d : List ℕ) (n : ℕ) → (n ≡ 1 → ⊥) → (n ≡ 3 → ⊥) → (n ≡ 15 → ⊥) → Refused NotReceivers ≡ byResponse k d n
+with-other : (k : Key) (d : List ℕ) (n : ℕ) → (n ≡ 1 → ⊥) → (n ≡ 3 → ⊥) → (n ≡ 15 → ⊥) → Refused NeitherTakes ≡ byResponse k d n
 with-other k d n a b e =
     else (eqb n 1) _ _ _ (ne-eqb n 1 a)
     (else (eqb n 3) _ _ _ (ne-eqb n 3 b)

@@ -25,9 +25,13 @@ pub enum Met {
     EndTooEarly,
     TooLate,
     TooLateToSender,
+    TakenByNode,
+    ReplyTakenByNode,
+    ThirdToNode,
+    NodeToThird,
 }
 
-const LEAST: [(&str, u64); 22] = [
+const LEAST: [(&str, u64); 26] = [
     ("arrivals", 10_000),
     ("arrivals by BAM", 3_000),
     ("arrivals of a length at an edge", 3_000),
@@ -50,6 +54,10 @@ const LEAST: [(&str, u64); 22] = [
     ("ends too early", 50),
     ("frames too late for their session", 500),
     ("replies too late for their transfer", 50),
+    ("frames taken by a node", 10_000),
+    ("replies taken by a node", 5_000),
+    ("messages of a third to the sending node", 500),
+    ("messages of the receiving node to a third", 500),
 ];
 
 #[derive(Default)]
@@ -70,12 +78,8 @@ impl Counts {
     }
 
     pub fn line(&self) -> String {
-        format!(
-            "network: {} transfers arrived; with losses {} arrived, {} lost, {} frames dropped",
-            self.of(Met::Arrived),
-            self.of(Met::ArrivedInSpite),
-            self.of(Met::Lost),
-            self.of(Met::DroppedToReceiver) + self.of(Met::DroppedToSender)
-        )
+        let [arrived, in_spite] = [Met::Arrived, Met::ArrivedInSpite].map(|met| self.of(met));
+        let lost = self.of(Met::DroppedToReceiver) + self.of(Met::DroppedToSender);
+        format!("network: {arrived} transfers arrived, {lost} lost frames, {in_spite} messages handed over with losses")
     }
 }

@@ -4,8 +4,12 @@ mod clock;
 mod hostile;
 mod multi_pg;
 mod network;
+mod node;
 mod records;
 mod repeated;
+mod replies;
+mod sender_records;
+mod sending;
 mod small;
 
 use crate::pair::{Pair, Verdict};
@@ -19,7 +23,7 @@ pub struct Kind {
     pub run: fn(&mut Pair, &mut Random, u64) -> Verdict<()>,
 }
 
-pub const KINDS: [Kind; 15] = [
+pub const KINDS: [Kind; 23] = [
     Kind { name: "valid transfers", calls: 225_000, must_refuse: &[], run: network::valid },
     Kind { name: "interleaved senders", calls: 300_000, must_refuse: &[15, 22], run: network::interleaved },
     Kind {
@@ -50,4 +54,42 @@ pub const KINDS: [Kind; 15] = [
         must_refuse: &[8, 11, 12, 13, 14, 15, 21, 22],
         run: repeated::run,
     },
+    Kind {
+        name: "sender's calls",
+        calls: 1_500_000,
+        must_refuse: &[1, 2, 3, 8, 9, 10, 14, 16, 22, 25, 26, 27],
+        run: sending::calls,
+    },
+    Kind { name: "sender's openings", calls: 100_000, must_refuse: &[23], run: sending::openings },
+    Kind {
+        name: "sender's buffers of other lengths",
+        calls: 400_000,
+        must_refuse: &[16, 23, 26],
+        run: sending::other_lengths,
+    },
+    Kind {
+        name: "sender's records of any bytes",
+        calls: 400_000,
+        must_refuse: &[16, 23],
+        run: sender_records::any_bytes,
+    },
+    Kind {
+        name: "sender's records at the edges",
+        calls: 1_000_000,
+        must_refuse: &[14, 16, 22, 23, 25, 26, 27],
+        run: sender_records::edges,
+    },
+    Kind {
+        name: "sender's records with turned bits",
+        calls: 600_000,
+        must_refuse: &[16, 22, 23, 26, 27],
+        run: sender_records::turned_bits,
+    },
+    Kind {
+        name: "node's frames",
+        calls: 800_000,
+        must_refuse: &[1, 2, 3, 8, 9, 10, 11, 14, 16, 19, 21, 22, 25, 26, 27],
+        run: node::frames,
+    },
+    Kind { name: "node's damaged records", calls: 500_000, must_refuse: &[3, 16, 23, 27], run: node::damaged },
 ];

@@ -188,3 +188,21 @@ fn a_broadcast_beside_it() {
     assert_eq!(bench.reply("31 FF FF FF 01 00 00 02 00 CA FE 00").number(), 0);
     assert_eq!(bench.events(), [Event::Segment(1), Event::Segment(2), Event::Status]);
 }
+
+/// A record in bounds may say that an EOMS is owed though a grant is open, which no run of calls gives: the EOMS goes first.
+#[test]
+fn an_eoms_owed_beside_an_open_grant() {
+    let mut bench = Bench::after(180, &["31 FF FF FF 01 00 00 03 00 CA FE 00"]);
+    bench.sender.transfers[0].as_mut().expect("open").status_owed = true;
+    let status = bench.ask(TO, 3, 180);
+    assert_eq!(status.event, Event::Status);
+    assert_eq!(told(&status.frame), "1C4D2180: 32 B4 00 00 03 00 00 00 00 CA FE 00");
+    let transfer = bench.transfer();
+    assert_eq!((transfer.status_out, transfer.status_owed, transfer.next, transfer.granted), (true, false, 1, 3));
+    assert_eq!(bench.events(), [segments(1, 3), vec![Event::Status]].concat());
+    // A broadcast ends with it.
+    let mut bench = Bench::bam(180);
+    bench.sender.transfers[0].as_mut().expect("open").status_owed = true;
+    assert_eq!(bench.ask(ALL, 3, 180).event, Event::EndedWell);
+    assert_eq!(bench.open(), 0);
+}

@@ -3,6 +3,7 @@
 mod announcing;
 mod asking;
 mod bounds;
+mod bytes;
 mod clock;
 mod replies;
 

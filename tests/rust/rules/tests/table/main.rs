@@ -1,6 +1,7 @@
-//! 01's table and whole case, and in `restart` what E1 of 02 asks for, so that the rules stand on the papers before anything is held
-//! against them.
+//! 01's table and whole case, in `restart` what E1 of 02 asks for and in `other_end` what E2 asks of a receiver by itself, so that the
+//! rules stand on the papers before anything is held against them.
 
+mod other_end;
 mod restart;
 
 use rules::groups::{pack, read, Group};

@@ -1,0 +1,4 @@
+pub mod Ends
+pub mod Sessions
+pub mod Call
+pub mod Demand3
