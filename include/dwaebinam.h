@@ -82,7 +82,8 @@ enum {
     DWB_REFUSED = 9
 };
 
-/* What each answer of the sender says. The key has the own address as SA and the destination as DA.
+/* What each answer of the sender says. The key has the own address as SA and the destination as DA. A field that is not named here is 0: the
+   caller of DWB_SEGMENT_SENT has just named the transfer, and has the frame of DWB_CTS_TAKEN.
 
      code                   what has happened                   fields                                             to be sent
      DWB_ANNOUNCED          a transfer is open                  key, kind, length, PGN, Total Bytes; segment is    RTS or BAM
@@ -187,7 +188,8 @@ uint8_t dwb_sender_reading(uint8_t *sender, size_t sender_bytes, uint32_t readin
 
 /* Takes one frame at a node that receives and sends, in place of dwb_frame. 23 for the receiver's record or the store, then for the
    sender's record; then a CTS, an EOMA and an Abort of a responder go to the sender, all else to the receiver, and the answer's code says
-   which end answered. What goes to one end changes no byte of the other. */
+   which end answered: it judges the frame by its own record, 2, 1 and 3 first. What goes to one end changes no byte of the other. Open both
+   records with one own address. */
 uint8_t dwb_node_frame(uint8_t *record, size_t record_bytes, uint32_t id, const uint8_t *bytes, size_t bytes_len,
                        uint8_t *store, size_t store_bytes, uint8_t *sender, size_t sender_bytes,
                        uint8_t *answer, size_t answer_bytes);

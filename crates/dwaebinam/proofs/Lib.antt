@@ -1,4 +1,5 @@
 pub mod Answered
+pub mod Routed
 pub mod Exports
 pub mod Counts
 pub mod Messages

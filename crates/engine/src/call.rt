@@ -28,7 +28,7 @@ fn groups(route: Route, bytes: &[u8]) -> Answer
 }
 
 // Takes one frame, of a record that is in bounds and a store of its length: 2, 1, 3, then 9 and the rest by kind.
-pub fn take_ready(buffer: &mut [u8], id: u32, bytes: &[u8], store: &mut [u8]) -> Answer
+fn take_ready(buffer: &mut [u8], id: u32, bytes: &[u8], store: &mut [u8]) -> Answer
     requires { ⌜ readyIn (now buffer) (length (now store)) ≡ true ⌝ }
     ensures { λ x. ⌜ (x, (now (buffer .exit), now (store .exit))) ≡ frameIn (now (buffer .entry)) id (now (bytes .entry)) (now (store .entry)) ⌝ }
 {

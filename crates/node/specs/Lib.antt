@@ -1,2 +1,3 @@
 pub mod Node
+pub mod Routes
 pub mod Apart

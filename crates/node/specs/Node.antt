@@ -1,6 +1,6 @@
 -- Which end a frame is for, and what the node's frame call does: 02, E2.
 use Prim.Native.Nat.{ℕ}
-use mathlib.Core.Bool.{Bool, cond, not, _&&_}
+use mathlib.Core.Bool.{Bool, cond, not, _&&_, _||_}
 use mathlib.Core.List.{List}
 use lib.Dec.{eqb}
 use lib.ListN.{length}
@@ -23,6 +23,11 @@ abbrev pub isResponders : ℕ → List ℕ → Bool
 isResponders id d =
     eqb (length d) 12
     && (eqb (identifierOf id .pf) 77 && isResponse d)
+
+-- a frame becomes the sender's call if it is for it or its record must refuse it, and the receiver's record and store, which come first, are
+-- in bounds
+unfoldable pub isSenders : List ℕ → ℕ → List ℕ → ℕ → List ℕ → Bool
+isSenders b n s id d = (not (sender.readyIn s) || isResponders id d) && receiver.readyIn b n
 
 -- the answer; the receiver's record and store, and the sender's record
 abbrev pub NodeCalled : Type 0

@@ -91,16 +91,28 @@ sentBy (some w) r out = (record { reply = r; id = w .0; len = length (w .1) }, w
 abbrev pub sentIn : Key → List ℕ → Reply → List ℕ → Sent × List ℕ
 sentIn k m r out = sentBy (sends k m r) r out
 
--- a segment of the message; no call that sends by this ends a transfer by a refusal
+-- what an announcement answers
+abbrev pub Announces : Reply → Type 0
+Announces (reply.Announced o) = Unit {0}
+Announces (reply.Segment n) = ⊥
+Announces (reply.Status o) = ⊥
+Announces reply.NothingDue = ⊥
+Announces reply.Granted = ⊥
+Announces (reply.Acknowledged k) = ⊥
+Announces (reply.Aborted k) = ⊥
+Announces (reply.Ended e) = ⊥
+Announces (reply.Refused n) = Unit {0}
+
+-- what a transfer answers that is asked for its next frame: a segment is one of the message
 abbrev pub Sendable : List ℕ → Reply → Type 0
+Sendable m (reply.Announced o) = ⊥
 Sendable m (reply.Segment n) = (1 ≤ n .0) × (60 * (n .0 - 1) + dueOf (length m) (n .0) ≤ length m) × (length m ≤ 4096)
-Sendable m (reply.Ended e) = ⊥
-Sendable m (reply.Announced o) = Unit {0}
 Sendable m (reply.Status o) = Unit {0}
 Sendable m reply.NothingDue = Unit {0}
-Sendable m reply.Granted = Unit {0}
-Sendable m (reply.Acknowledged k) = Unit {0}
-Sendable m (reply.Aborted k) = Unit {0}
+Sendable m reply.Granted = ⊥
+Sendable m (reply.Acknowledged k) = ⊥
+Sendable m (reply.Aborted k) = ⊥
+Sendable m (reply.Ended e) = ⊥
 Sendable m (reply.Refused n) = Unit {0}
 
 -- ---- the calls on bytes: 23 for a record out of bounds, and for an output not of 64 bytes

@@ -30,7 +30,7 @@ use Rattle.transfer.specs.Kept.{InBounds, in-bounds-facts}
 use Rattle.sender_bytes.specs.Places.{recordLength}
 use Rattle.sender_bytes.specs.Layout.{senderAt, transfersAt}
 use Rattle.sender.specs.Transfers.{anyHolds, oneOk, transfersOk, inBounds, readyIn, stateIn}
-use Rattle.sender.specs.Calls.{Sendable}
+use Rattle.sender.specs.Calls.{Announces, Sendable}
 
 -- ---- in bounds
 
@@ -66,12 +66,12 @@ state-ok b f h =
 abbrev Goes : List ℕ → Step → Type 0
 Goes m st = Sendable m (st .reply)
 
-pub announce-sendable : (m : List ℕ) (x : State) (room : Bool) (k : Key) (pgn n last : ℕ) → Goes m (announcedTo x room k pgn n last)
+pub announce-announces : (x : State) (room : Bool) (k : Key) (pgn n last : ℕ) → Announces (announcedTo x room k pgn n last .reply)
 unfolding announcedTo
-announce-sendable m x room k pgn n last = go (not (destinationOk k)) (not (pgnOk pgn)) (not (lengthOk n)) x room
+announce-announces x room k pgn n last = go (not (destinationOk k)) (not (pgnOk pgn)) (not (lengthOk n)) x room
   where
     go : (d p l : Bool) (x : State) (room : Bool)
-        → Goes m (cond d (refused NotTaken) (cond p (refused PgnForm) (cond l (refused MessageLength) (forKey x room (offerOf k pgn n) last))))
+        → Announces (cond d (refused NotTaken) (cond p (refused PgnForm) (cond l (refused MessageLength) (forKey x room (offerOf k pgn n) last))) .reply)
     go true p l x room = tt
     go false true l x room = tt
     go false false true x room = tt

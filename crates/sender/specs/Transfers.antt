@@ -1,11 +1,13 @@
 -- Searches over the transfers of a record, and when it is in bounds: 02, E2, "Sender's state in bounds".
 use Prim.Native.Nat.{ℕ}
+use mathlib.Core.Path.{_≡_}
 use mathlib.Core.Bool.{Bool, true, false, cond, not, _&&_, _||_}
 use mathlib.Core.List.{List, [], _∷_}
 use lib.Dec.{eqb}
 use lib.ListN.{length, getD}
 use Rattle.transport.specs.declared.Key.{Key}
 use Rattle.slots.specs.declared.Found.{Found}
+use Rattle.slots.specs.declared.Found.the-variants.{At, Nothing}
 use Rattle.slots.specs.Slots.{sameKey, firstAt, orElse, onFound}
 use Rattle.slots.specs.Bounds.{openingOk}
 use Rattle.transfer.specs.declared.State.{State}
@@ -36,6 +38,11 @@ slotFor k ts = orElse (keyPlace k ts) (firstFree ts)
 
 abbrev pub stateIn : Found → List State → State
 stateIn f ts = onFound f (λ i. getD ts i Closed) Closed
+
+-- what was found by a key is open
+abbrev pub OpenAt : Found → List State → Type 0
+OpenAt (At i) ts = isFree (getD ts i Closed) ≡ false
+OpenAt Nothing ts = Unit {0}
 
 -- ---- bounds: each open transfer as 02 says, no two of one destination and session number
 

@@ -11,7 +11,7 @@ use super::ready::is_ready;
 use super::search::slot_for;
 use super::search::state_in;
 use super::send::quiet;
-use super::send::send;
+use super::send::send_announcement;
 use frame::Address;
 use frame::SessionNumber;
 use frame::refusal::Refusal;
@@ -65,5 +65,5 @@ pub fn announce(
     }
     let key = key_in(buffer, da, session);
     let reply = announced(buffer, key, pgn, message.len());
-    send(out, key, message, reply)
+    send_announcement(out, reply)
 }

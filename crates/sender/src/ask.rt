@@ -12,7 +12,7 @@ use super::announce::key_in;
 use super::apply::apply;
 use super::ready::is_ready;
 use super::search::find_key;
-use super::search::state_in;
+use super::search::held_in;
 use super::send::quiet;
 use super::send::send;
 use frame::Address;
@@ -30,7 +30,7 @@ fn asked(buffer: &mut [u8], key: Key, len: usize) -> Reply
     ensures { λ x. ⌜ (x, now (buffer .exit)) ≡ decidedIn (now (buffer .entry)) (asks (senderAt (now (buffer .entry))) key len) ⌝ }
 {
     let f = find_key(buffer, key);
-    let x = state_in(buffer, f);
+    let x = held_in(buffer, f);
     let step = next::ask(x, len, word_at(buffer, LAST_AT));
     apply(buffer, f, step)
 }

@@ -9,7 +9,7 @@ ghost use Rattle.sender.specs.Calls.{decidedIn, hearsFrom, hearIn};
 use super::apply::apply;
 use super::ready::is_ready;
 use super::search::find_key;
-use super::search::state_in;
+use super::search::held_in;
 use frame::Address;
 use frame::judge::Route;
 use frame::judge::Verdict;
@@ -30,13 +30,13 @@ pub fn control(buffer: &mut [u8], route: Route, bytes: &[u8]) -> Reply
 {
     let key = session_key(route, bytes);
     let f = find_key(buffer, key);
-    let x = state_in(buffer, f);
+    let x = held_in(buffer, f);
     let step = hear::hear(x, read_response(route, bytes), word_at(buffer, LAST_AT));
     apply(buffer, f, step)
 }
 
 // Takes one frame of a record in bounds: 2, 1, 3 for all but a control frame, then 9, 10, 16, 27.
-pub fn take_ready(buffer: &mut [u8], id: u32, bytes: &[u8]) -> Reply
+fn take_ready(buffer: &mut [u8], id: u32, bytes: &[u8]) -> Reply
     requires { ⌜ (length (now buffer) ≡ recordLength) × (readyIn (now buffer) ≡ true) ⌝ }
     ensures { λ x. ⌜ (x, now (buffer .exit)) ≡ hearIn (now (buffer .entry)) id (now (bytes .entry)) ⌝ }
 {

@@ -1,15 +1,16 @@
 // Searches over the transfers in a record's bytes.
 ghost use mathlib.Core.Path.{_≡_};
-ghost use mathlib.Core.Bool.{not};
+ghost use mathlib.Core.Bool.{false, not};
 ghost use Prim.Native.Nat.{_≤_, _<_};
 ghost use lib.ListN.{length, getD, drop};
 ghost use Rattle.slots.specs.Slots.{Within};
-ghost use Rattle.transfer.specs.declared.State.the-variants.{Closed};
+ghost use Rattle.transfer.specs.declared.State.the-variants.{Closed, Open};
 ghost use Rattle.sender_bytes.specs.Places.{recordLength};
 ghost use Rattle.sender_bytes.specs.Layout.{transfersAt};
-ghost use Rattle.sender.specs.Transfers.{isFree, holds, firstFree, keyPlace, slotFor, stateIn, anyHolds};
+ghost use Rattle.sender.specs.Transfers.{isFree, holds, firstFree, keyPlace, slotFor, stateIn, OpenAt, anyHolds};
 use frame::Address;
 use sender_bytes::layout::state_at;
+use sender_bytes::layout::transfer_at;
 use sender_bytes::places::DA_AT;
 use sender_bytes::places::OWN_AT;
 use sender_bytes::places::SESSION_AT;
@@ -18,6 +19,7 @@ use sender_bytes::places::TRANSFERS;
 use sender_bytes::places::transfer_place;
 use slots::Found;
 use transfer::State;
+use transfer::Transfer;
 use transport::Key;
 
 fn is_free(bytes: &[u8], i: usize) -> bool
@@ -112,6 +114,28 @@ pub fn transfer_in(bytes: &[u8], i: usize) -> State
     let at = transfer_place(i);
     let end = at + TRANSFER_BYTES;
     state_at(own, &bytes[at..end])
+}
+
+// Transfer i, which is open.
+fn open_in(bytes: &[u8], i: usize) -> Transfer
+    requires { ⌜ (length (now bytes) ≡ recordLength) × (i < 4) × (isFree (getD (transfersAt (now bytes)) i Closed) ≡ false) ⌝ }
+    ensures { λ r. ⌜ Open r ≡ getD (transfersAt (now (bytes .entry))) i Closed ⌝ }
+{
+    let own = Address(bytes[OWN_AT]);
+    let at = transfer_place(i);
+    let end = at + TRANSFER_BYTES;
+    transfer_at(own, &bytes[at..end])
+}
+
+// What is known of the key that it was found for by find_key: a transfer that was found is open, and its first byte is not asked again.
+pub fn held_in(bytes: &[u8], f: Found) -> State
+    requires { ⌜ (length (now bytes) ≡ recordLength) × Within f 4 × OpenAt f (transfersAt (now bytes)) ⌝ }
+    ensures { λ r. ⌜ r ≡ stateIn f (transfersAt (now (bytes .entry))) ⌝ }
+{
+    match f {
+        Found::At(i) => State::Open(open_in(bytes, i)),
+        Found::Nothing => State::Closed,
+    }
 }
 
 // What is known of the key that it was found for.

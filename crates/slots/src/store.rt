@@ -6,20 +6,18 @@ ghost use lib.Seq.{paste};
 ghost use Rattle.transport.specs.Segments.{dataAt};
 use super::SLOT_BYTES;
 use octets::copy;
+use octets::copy_sixty;
 
 // The data of every segment but the last.
 const SEGMENT_BYTES: usize = 60;
 
-// A data frame's data into part from at on. A whole segment goes by way of an array of its own, whose length is known and which lies in
-// no lent buffer, so that both copies are a few moves.
+// A data frame's data into part from at on.
 fn copy_in(part: &mut [u8], at: usize, bytes: &[u8], n: usize)
     requires { ⌜ (at + n ≤ length (now part)) × (4 + n ≤ length (now bytes)) ⌝ }
     ensures { λ _. ⌜ now (part .exit) ≡ paste (now (part .entry)) at (dataAt (now (bytes .entry))) n ⌝ }
 {
     if n == SEGMENT_BYTES {
-        let mut data = [0u8; 60];
-        copy(&mut data, 0, bytes, 4, SEGMENT_BYTES);
-        copy(part, at, &data, 0, SEGMENT_BYTES);
+        copy_sixty(part, at, bytes, 4);
         return;
     }
     copy(part, at, bytes, 4, n);

@@ -5,7 +5,7 @@ use mathlib.Core.List.{List, [], _∷_, _++_, append-assoc}
 use native.Mathlib.Omega.{arith}
 use lib.ListN.{length, take, drop, replicate, length-append, length-drop, length-replicate}
 use lib.Seq.{paste, length-take-le}
-use Rattle.laws.specs.Pastes.{paste-next}
+use Rattle.laws.specs.Pastes.{paste-own, paste-next}
 use Rattle.frame.specs.Lengths.{frameLength}
 use Rattle.frame.specs.LengthLaws.{frame-bounds, frame-gap}
 use Rattle.transport.specs.declared.Key.{Key}
@@ -28,6 +28,11 @@ filled out o need len h l e =
     ∙ ap (λ (x : ℕ). paste out need (replicate 16 170) (x - need)) l
     ∙ ap (λ (x : List ℕ). take need out ++ x ++ drop (need + gap) out)
     (taken-of 16 gap 170 (omega arith) ∙ sym (taken-of gap gap 170 (omega arith)))
+
+-- a frame that is full already
+pub full : (out : List ℕ) → length out ≡ 64 → out ≡ paste out 64 (filler 64) (frameLength 64 - 64)
+unfolding frameLength
+full out l = sym (paste-own out 64 0 (omega arith))
 
 module _ (out o₁ o₂ o₃ message : List ℕ) (k : Key) (n from due len : ℕ) where
   pub laid : due ≤ 60 → from + due ≤ length message → len ≡ frameLength (4 + due)

@@ -14,6 +14,7 @@ use frame::octet::low_byte;
 use frame::octet::low24_at;
 use frame::refusal::Refusal;
 use octets::copy;
+use octets::copy_sixty;
 
 // What comes before a segment's data, and how many bytes follow.
 pub struct Segment {
@@ -82,4 +83,15 @@ pub fn write_segment(
     copy(out, 0, &head, 0, 4);
     copy(out, 4, message, from, due);
     fill(out, 4 + due)
+}
+
+// Writes the data frame of segment n with 60 bytes of the message from its index from on, which fill it.
+pub fn write_whole(out: &mut [u8], key: Key, n: SegmentNumber, message: &[u8], from: usize) -> usize
+    requires { ⌜ (length (now out) ≡ 64) × (from + 60 ≤ length (now message)) ⌝ }
+    ensures { λ r. ⌜ (r, now (out .exit)) ≡ laidIn (segmentBytes key (n .0) (take 60 (drop from (now (message .entry))))) (now (out .entry)) ⌝ }
+{
+    let head = front(key, n);
+    copy(out, 0, &head, 0, 4);
+    copy_sixty(out, 4, message, from);
+    64
 }

@@ -10,8 +10,8 @@ use Rattle.transport.specs.declared.Key.{Key}
 use Rattle.transfer.specs.declared.Reply.{Reply}
 use Rattle.sender_bytes.specs.Layout.{senderAt}
 use Rattle.sender.specs.declared.Sent.{Sent}
-use Rattle.sender.specs.Calls.{Sendable, announces, announceIn}
-use Rattle.sender.specs.Facts.{ready-long, announce-sendable}
+use Rattle.sender.specs.Calls.{Announces, announces, announceIn}
+use Rattle.sender.specs.Facts.{ready-long, announce-announces}
 use Rattle.sender.proofs.Decided.{given}
 use borrow.Author.Needs.{needs}
 use Rattle.sender.proofs.announce.announce.Statement.{statement}
@@ -22,7 +22,7 @@ use Rattle.sender.proofs.announce.announced.Reads as announced-reads
 use Rattle.sender.proofs.announce.key_in.Reads as key-in-reads
 use Rattle.sender.proofs.ready.is_ready.Reads as is-ready-reads
 use Rattle.sender.proofs.send.quiet.Reads as quiet-reads
-use Rattle.sender.proofs.send.send.Reads as send-reads
+use Rattle.sender.proofs.send.send_announcement.Reads as send-announcement-reads
 
 is-ready-requires : tie.Need-is-ready-requires
 is-ready-requires c κs = search needs
@@ -56,9 +56,9 @@ key-in-requires c κs = ready-long _ (sym (c .before .before .before .is-ready .
 announced-requires : tie.Need-announced-requires
 announced-requires c κs = ready-long _ (sym (c .before .before .before .before .before .is-ready .ensures) ∙ not-false _ (c .before .before .before .before .if1 .left))
 
-send-requires : tie.Need-send-requires
-send-requires c κs = let a = c .before .before .before .before .before .before .before .before .before .before .before .before .before .before .args in
-    (c .before .before .before .before .before .before .before .if2 .left, subst (Sendable (now (a .message))) (sym (ap (λ (y : Reply × List ℕ). y .0) (c .before .before .before .announced .ensures))) (announce-sendable (now (a .message)) _ _ _ _ _ _))
+send-announcement-requires : tie.Need-send-announcement-requires
+send-announcement-requires c κs =
+    (c .before .before .before .before .before .before .before .if2 .left, subst Announces (sym (ap (λ (y : Reply × List ℕ). y .0) (c .before .before .before .announced .ensures))) (announce-announces _ _ _ _ _ _))
 
 same-length-3 : tie.Need-same-length-3
 same-length-3 c = search needs
@@ -72,7 +72,7 @@ returns-3 c = let a = c .before .before .before .before .before .before .before 
     else _ _ _ _ (ap not (sym (c .before .before .before .before .before .before .before .before .before .before .before .before .is-ready .ensures)) ∙ c .before .before .before .before .before .before .before .before .before .before .before .if1 .left)
     (else _ _ _ _ (ap not (eq-eqb _ _ (c .before .before .before .before .before .before .before .before .before .before .if2 .left)))
     (given (now (a .buffer)) (c .before .before .before .before .before .before .before .before .key-in .result) _ (now (a .message)) (now (a .out)) (λ (k : Key). announces (senderAt (now (a .buffer))) k (a .pgn) (length (now (a .message)))) _ _ _ _
-    (c .before .before .before .before .before .before .before .before .key-in .ensures) (c .before .before .before .before .before .before .announced .ensures) (c .before .before .send .ensures)))
+    (c .before .before .before .before .before .before .before .before .key-in .ensures) (c .before .before .before .before .before .before .announced .ensures) (c .before .before .send-announcement .ensures (c .before .before .before .before .before .before .before .before .key-in .result) (now (a .message)))))
 
 pub announce-spec : {M : Type 1} → statement M
 announce-spec =
@@ -87,7 +87,7 @@ announce-spec =
     returns-2
     key-in-requires
     announced-requires
-    send-requires
+    send-announcement-requires
     same-length-3
     same-length-4
     returns-3)

@@ -11,6 +11,7 @@ use Rattle.transfer.specs.Decisions.{hears}
 use Rattle.sender_bytes.specs.Layout.{transfersAt}
 use Rattle.sender.specs.Transfers.{keyPlace}
 use Rattle.sender.proofs.Decided.{decided}
+use Rattle.sender.specs.Held.{held-open}
 use borrow.Author.Needs.{needs}
 use Rattle.sender.proofs.hear.control.Statement.{statement}
 use Rattle.sender.proofs.hear.control.Tie as tie
@@ -18,7 +19,7 @@ use Rattle.sender.proofs.hear.control.Reads as reads
 use Rattle.sender.proofs.hear.control.Lts as lts
 use Rattle.sender.proofs.apply.apply.Reads as apply-reads
 use Rattle.sender.proofs.search.find_key.Reads as find-key-reads
-use Rattle.sender.proofs.search.state_in.Reads as state-in-reads
+use Rattle.sender.proofs.search.held_in.Reads as held-in-reads
 use Rattle.transfer.proofs.hear.hear.Reads as hear-reads
 use Rattle.transport.proofs.head.session_key.Reads as session-key-reads
 use Rattle.transport.proofs.response.read_response.Reads as read-response-reads
@@ -30,8 +31,10 @@ session-key-requires c κs = search needs
 find-key-requires : tie.Need-find-key-requires
 find-key-requires c κs = search needs
 
-state-in-requires : tie.Need-state-in-requires
-state-in-requires c κs = search needs
+held-in-requires : tie.Need-held-in-requires
+held-in-requires c κs =
+    let found = c .before .find-key in
+    (c .before .before .before .before .before .before .pre, found .ensures .1, held-open _ _ _ (found .ensures .0))
 
 read-response-requires : tie.Need-read-response-requires
 read-response-requires c κs = search needs
@@ -52,9 +55,9 @@ returns : tie.Need-returns
 returns c = let a = c .before .before .before .before .before .before .before .before .before .before .before .before .before .before .before .args in
     let b = now (a .buffer) in
     let d = now (a .bytes) in
-    let x = c .before .before .before .before .before .before .before .before .state-in .result in
+    let x = c .before .before .before .before .before .before .before .before .held-in .result in
     decided b (λ (g : Found) (y : State). hears y (responseOf (a .route) d) (low32 b lastPlace)) (c .before .before .before .before .before .before .before .before .before .before .find-key .result) _ x _ _ _
-    (c .before .before .before .before .before .before .before .before .before .before .find-key .ensures .0 ∙ ap (λ (k : Key). keyPlace k (transfersAt b)) (c .before .before .before .before .before .before .before .before .before .before .before .before .session-key .ensures)) (c .before .before .before .before .before .before .before .before .state-in .ensures)
+    (c .before .before .before .before .before .before .before .before .before .before .find-key .ensures .0 ∙ ap (λ (k : Key). keyPlace k (transfersAt b)) (c .before .before .before .before .before .before .before .before .before .before .before .before .session-key .ensures)) (c .before .before .before .before .before .before .before .before .held-in .ensures)
     (c .before .before .before .before .hear .ensures
     ∙ ap (λ (r : ResponseRead). hears x r (c .before .before .before .before .before .word-at .result)) (c .before .before .before .before .before .before .before .read-response .ensures)
     ∙ ap (hears x (responseOf (a .route) d)) (c .before .before .before .before .before .word-at .ensures))
@@ -66,7 +69,7 @@ control-spec =
     (tie.spec
     session-key-requires
     find-key-requires
-    state-in-requires
+    held-in-requires
     read-response-requires
     word-at-requires
     hear-requires
