@@ -43,9 +43,10 @@ abbrev pub messageFields : Message → Fields
 messageFields m =
     record { number = 0; code = 5; key = m .key; kind = kindByte (m .kind); extra = m .slot % 256; pgn = m .pgn; total = m .total .0; segment = m .segments .0 }
 
-abbrev pub endedFields : Ending → Fields
-endedFields e =
-    record { number = numberOf (e .refusal); code = 7; key = e .key; kind = kindByte (e .kind); extra = 0; pgn = e .pgn; total = 0; segment = 0 }
+-- under the code of the end that answers
+abbrev pub endedFields : ℕ → Ending → Fields
+endedFields code e =
+    record { number = numberOf (e .refusal); code = code; key = e .key; kind = kindByte (e .kind); extra = 0; pgn = e .pgn; total = 0; segment = 0 }
 
 abbrev pub rejectionFields : Rejection → Fields
 rejectionFields j =
@@ -58,7 +59,7 @@ fieldsOf (Taken t) = takenFields t
 fieldsOf (Grant c) = grantFields c
 fieldsOf (HandedOver m) = messageFields m
 fieldsOf (Aborted k) = keyed 6 0 k
-fieldsOf (Ended e) = endedFields e
+fieldsOf (Ended e) = endedFields 7 e
 fieldsOf (RefusedRts j) = rejectionFields j
 fieldsOf (Refused n) = keyed 9 (numberOf n) noKey
 

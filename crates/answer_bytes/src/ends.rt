@@ -27,7 +27,7 @@ fn put_end(s: SlotEnd, out: &mut [u8], at: usize)
             copy(out, at, &none, 0, ANSWER_BYTES);
         }
         End::Ended(e) => {
-            put_fields(ended_fields(e), out, at);
+            put_fields(ended_fields(7, e), out, at);
             put_sending(response_of_end(End::Ended(e)), out, at);
         }
     }

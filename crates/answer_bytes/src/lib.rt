@@ -132,15 +132,16 @@ fn message_fields(m: Message) -> Fields
     }
 }
 
-pub fn ended_fields(e: Ending) -> Fields
-    ensures { λ r. ⌜ r ≡ endedFields e ⌝ }
+// A session or a transfer that a refusal has ended, under the code of the end that answers.
+pub fn ended_fields(code: u8, e: Ending) -> Fields
+    ensures { λ r. ⌜ r ≡ endedFields code e ⌝ }
 {
     let key = e.key;
     let kind = e.kind;
     let n = e.refusal;
     Fields {
         number: refusal::number(n),
-        code: 7,
+        code: code,
         key: key,
         kind: kind_byte(kind),
         extra: 0,
@@ -177,7 +178,7 @@ fn fields_of(a: Answer) -> Fields
         Answer::Grant(c) => grant_fields(c),
         Answer::HandedOver(m) => message_fields(m),
         Answer::Aborted(k) => keyed_fields(6, 0, k),
-        Answer::Ended(e) => ended_fields(e),
+        Answer::Ended(e) => ended_fields(7, e),
         Answer::RefusedRts(j) => rejection_fields(j),
         Answer::Refused(n) => keyed_fields(9, refusal::number(n), no_key()),
     }

@@ -33,7 +33,7 @@ pub enum Refusal {
     KeyOpen,
     // 15: no slot is free
     SlotsFull,
-    // 16: the key is not open
+    // 16: no session or transfer is open that it is for
     KeyNotOpen,
     // 17: a format indicator other than 0
     FormatIndicator,

@@ -52,7 +52,7 @@ use Rattle.session.specs.Decisions.{ifOpen, rejection, acceptedIf, isRestart, o
 use Rattle.receiver.specs.declared.Receiver.{Receiver}
 use Rattle.receiver.specs.Calls.{Outcome, refused, announceStep, statusStep, abortStep, controlStep, onControl, segmentStep, onData, isReady, groupsStep, onVerdict, frameAll}
 use Rattle.isolation.specs.Standard.{fdLengths, isOneOf}
-use Rattle.isolation.specs.Faults.{isTakenHere, isCutShort, isNotReceivers, isSenders, firstFault}
+use Rattle.isolation.specs.Faults.{isTakenHere, isCutShort, isNotReceivers, fromResponder, firstFault}
 use Rattle.isolation.proofs.Tests.{and-left, and-right}
 use Rattle.isolation.proofs.Same.{length-same}
 use Rattle.isolation.proofs.Fit.{walk}
@@ -162,8 +162,8 @@ module _ (r : Receiver) (d m : List ℕ) where
   receivers = isOneOf (controlAt d) (0 ∷ 2 ∷ 4 ∷ []) || (eqb (controlAt d) 15 && eqb (roleAt d) 0)
 
   -- 16 for a responder's frame, else 10
-  senders-number : numberOf (notReceivers d) ≡ cond (isSenders d) 16 10
-  unfolding isSenders isOneOf
+  senders-number : numberOf (notReceivers d) ≡ cond (fromResponder d) 16 10
+  unfolding fromResponder isOneOf
   senders-number = go (eqb (controlAt d) 1) (eqb (controlAt d) 3) (eqb (controlAt d) 15 && eqb (roleAt d) 1)
     where
       go : (a b x : Bool) → numberOf (cond (a || b || x) KeyNotOpen NeitherTakes) ≡ cond ((a || (b || false)) || x) 16 10
@@ -172,14 +172,14 @@ module _ (r : Receiver) (d m : List ℕ) where
       go false false true = refl
       go false false false = refl
 
-  control-told : (κ : Key) → Told r m (cond (not (eqb (length d) 12)) 9 (cond (not receivers) (cond (isSenders d) 16 10) 0)) (onControl (controlOf d) r κ, m)
+  control-told : (κ : Key) → Told r m (cond (not (eqb (length d) 12)) 9 (cond (not receivers) (cond (fromResponder d) 16 10) 0)) (onControl (controlOf d) r κ, m)
   unfolding controlOf announceStep statusStep abortStep isLater isOneOf receivers
   control-told κ =
       walk (λ (c : Control) (n : ℕ). Told r m n (onControl c r κ, m)) (not (eqb (length d) 12)) (not (eqb (length d) 12)) refl (λ _. at-fault TransferLength)
       (λ _. go (eqb (controlAt d) 0) (eqb (controlAt d) 4) (eqb (controlAt d) 2) (eqb (controlAt d) 15 && eqb (roleAt d) 0))
     where
       go : (a b s x : Bool)
-          → Told r m (cond (not ((a || (s || (b || false))) || x)) (cond (isSenders d) 16 10) 0) (
+          → Told r m (cond (not ((a || (s || (b || false))) || x)) (cond (fromResponder d) 16 10) 0) (
             onControl (cond a (control.Announce (announcementAt Rts d))
                 (cond b (control.Announce (announcementAt Bam d))
                 (cond s (control.EndOfMessage (statusAt d)) (cond x (control.Abort (abortPgnAt d)) (control.Refused (notReceivers d)))))) r κ,
@@ -200,7 +200,7 @@ module _ (r : Receiver) (d m : List ℕ) where
 
   -- by PF
   by-pf : (pf : ℕ) (ρ : Route)
-      → Told r m (cond (not (isOneOf pf (37 ∷ 77 ∷ 78 ∷ []))) 3 (cond (isCutShort pf (length d)) 9 (cond (isNotReceivers pf d) (cond (isSenders d) 16 10) 0))) (onVerdict (byFormat pf ρ) r d m)
+      → Told r m (cond (not (isOneOf pf (37 ∷ 77 ∷ 78 ∷ []))) 3 (cond (isCutShort pf (length d)) 9 (cond (isNotReceivers pf d) (cond (fromResponder d) 16 10) 0))) (onVerdict (byFormat pf ρ) r d m)
   unfolding byFormat controlStep isOneOf isCutShort isNotReceivers receivers
   by-pf pf ρ = go (eqb pf 37) (eqb pf 77) (eqb pf 78) refl refl refl
     where
@@ -209,7 +209,7 @@ module _ (r : Receiver) (d m : List ℕ) where
       alone false = refl
 
       go : (a b c : Bool) → eqb pf 37 ≡ a → eqb pf 77 ≡ b → eqb pf 78 ≡ c
-          → Told r m (cond (not (a || (b || (c || false)))) 3 (cond ((b && not (eqb (length d) 12)) || (c && ltb (length d) 5)) 9 (cond (b && not receivers) (cond (isSenders d) 16 10) 0)))
+          → Told r m (cond (not (a || (b || (c || false)))) 3 (cond ((b && not (eqb (length d) 12)) || (c && ltb (length d) 5)) 9 (cond (b && not receivers) (cond (fromResponder d) 16 10) 0)))
           (onVerdict (cond a (verdict.MultiPg ρ) (cond b (verdict.Control ρ) (cond c (verdict.Data ρ) (verdict.Refused NotTaken)))) r d m)
       go true b c e f g =
           let z : pf ≡ 37 = eqb-true pf 37 e in
@@ -245,11 +245,11 @@ first-fault r id d m = go (isReady r m)
     P v n = Told r m n (onVerdict v r d m)
 
     routed : P (cond (not (routeTaken (r .own) (identifierOf id))) (verdict.Refused NotTaken) (byFormat (identifierOf id .pf) (routeOf (identifierOf id))))
-        (cond (not (isTakenHere (r .own) id)) 3 (cond (isCutShort (identifierOf id .pf) (length d)) 9 (cond (isNotReceivers (identifierOf id .pf) d) (cond (isSenders d) 16 10) 0)))
+        (cond (not (isTakenHere (r .own) id)) 3 (cond (isCutShort (identifierOf id .pf) (length d)) 9 (cond (isNotReceivers (identifierOf id .pf) d) (cond (fromResponder d) 16 10) 0)))
     routed =
         let t : Bool = eqb (identifierOf id .extended_data_page) 0 && eqb (identifierOf id .data_page) 0 && (eqb (identifierOf id .ps) (r .own .0) || eqb (identifierOf id .ps) 255) in
         rw (split (t && not (isOneOf (identifierOf id .sa .0) (254 ∷ 255 ∷ r .own .0 ∷ []))) (isOneOf (identifierOf id .pf) (37 ∷ 77 ∷ 78 ∷ []))
-        (cond (isCutShort (identifierOf id .pf) (length d)) 9 (cond (isNotReceivers (identifierOf id .pf) d) (cond (isSenders d) 16 10) 0)))
+        (cond (isCutShort (identifierOf id .pf) (length d)) 9 (cond (isNotReceivers (identifierOf id .pf) d) (cond (fromResponder d) 16 10) 0)))
         (walk P (not (routeTaken (r .own) (identifierOf id))) (not (t && not (isOneOf (identifierOf id .sa .0) (254 ∷ 255 ∷ r .own .0 ∷ []))))
         (ap not (route-same t (eqb (identifierOf id .sa .0) 254) (eqb (identifierOf id .sa .0) 255) (eqb (identifierOf id .sa .0) (r .own .0))))
         (λ _. at-fault r d m NotTaken) (λ _. by-pf r d m (identifierOf id .pf) (routeOf (identifierOf id))))

@@ -18,7 +18,7 @@ use Rattle.transport.specs.Segments.{formatAt, numberAt, dataAt}
 use Rattle.isolation.specs.Standard.{fdLengths, isOneOf}
 use Rattle.transport.specs.declared.Kind.the-variants.{Rts, Bam}
 use Rattle.isolation.specs.OwnFrames.{Body, announce, segment, status, abort, controlBody, dataBody, taken, bodyOf}
-use Rattle.isolation.specs.Faults.{isTakenHere, isCutShort, firstFault, isTransfer, isNotReceivers, isSenders}
+use Rattle.isolation.specs.Faults.{isTakenHere, isCutShort, firstFault, isTransfer, isNotReceivers, fromResponder}
 use Rattle.isolation.specs.Observe.{isBody}
 use Rattle.isolation.proofs.Same.{length-same}
 use Rattle.isolation.proofs.Read.{taken-same}
@@ -130,7 +130,7 @@ own-exactly own id d =
       control-is d,
       data-is d,
       fault-free (leb 536870912 id) (isOneOf (length d) fdLengths) (isTakenHere own id)
-          (isCutShort (identifierOf id .pf) (length d)) (isNotReceivers (identifierOf id .pf) d) (isSenders d),
+          (isCutShort (identifierOf id .pf) (length d)) (isNotReceivers (identifierOf id .pf) d) (fromResponder d),
     )
     (go (eqb (identifierOf id .pf) 37) (eqb (identifierOf id .pf) 77) (eqb (identifierOf id .pf) 78) refl refl refl)
   where

@@ -30,8 +30,8 @@ isNotReceivers pf d =
     eqb pf 77 && not (isOneOf (controlAt d) (0 ∷ 2 ∷ 4 ∷ []) || (eqb (controlAt d) 15 && eqb (roleAt d) 0))
 
 -- a control frame that goes to a sender: CTS, EOMA, or an Abort in the responder's role
-unfoldable pub isSenders : List ℕ → Bool
-isSenders d = isOneOf (controlAt d) (1 ∷ 3 ∷ []) || (eqb (controlAt d) 15 && eqb (roleAt d) 1)
+unfoldable pub fromResponder : List ℕ → Bool
+fromResponder d = isOneOf (controlAt d) (1 ∷ 3 ∷ []) || (eqb (controlAt d) 15 && eqb (roleAt d) 1)
 
 -- 23, 2, 1, 3, 9, then for a control frame 16, since a receiver alone has no transfer, or 10 for what neither end takes: the number of the first that applies, 0 where none does. `ready`: record and store are
 -- in bounds
@@ -42,7 +42,7 @@ firstFault ready own id d =
     (cond (not (isOneOf (length d) fdLengths)) 1
     (cond (not (isTakenHere own id)) 3
     (cond (isCutShort (identifierOf id .pf) (length d)) 9
-    (cond (isNotReceivers (identifierOf id .pf) d) (cond (isSenders d) 16 10)
+    (cond (isNotReceivers (identifierOf id .pf) d) (cond (fromResponder d) 16 10)
     0)))))
     23
 

@@ -21,7 +21,7 @@ use Rattle.record_bytes.specs.Layout.{kindByte}
 use Rattle.answer_bytes.specs.declared.Fields.{Fields}
 use Rattle.answer_bytes.specs.Places.{answerLength, sentLength, dataLength}
 use Rattle.answer_bytes.specs.Ends.{endsBy}
-use Rattle.answer_bytes.specs.Answers.{noKey, keyed, fieldsBytes, sentHead}
+use Rattle.answer_bytes.specs.Answers.{noKey, keyed, endedFields, fieldsBytes, sentHead}
 
 -- ---- fields
 
@@ -43,10 +43,6 @@ abbrev pub segmentFields : ℕ → ℕ → Fields
 segmentFields n len =
     record { number = 0; code = 11; key = noKey; kind = 0; extra = len % 256; pgn = 0; total = 0; segment = n }
 
-abbrev pub endingFields : Ending → Fields
-endingFields e =
-    record { number = numberOf (e .refusal); code = 17; key = e .key; kind = kindByte (e .kind); extra = 0; pgn = e .pgn; total = 0; segment = 0 }
-
 -- of a reply whose frame, if there is one, is of len bytes
 abbrev pub replyFields : Reply → ℕ → Fields
 replyFields (reply.Announced o) len = offerFields 10 o len
@@ -56,20 +52,12 @@ replyFields reply.NothingDue len = keyed 13 0 noKey
 replyFields reply.Granted len = keyed 14 0 noKey
 replyFields (reply.Acknowledged k) len = keyed 15 0 k
 replyFields (reply.Aborted k) len = keyed 16 0 k
-replyFields (reply.Ended e) len = endingFields e
+replyFields (reply.Ended e) len = endedFields 17 e
 replyFields (reply.Refused n) len = keyed 18 (numberOf n) noKey
 
 -- the refusal's number, 0 where nothing is refused
 abbrev pub replyNumber : Reply → ℕ
-replyNumber (reply.Announced o) = 0
-replyNumber (reply.Segment n) = 0
-replyNumber (reply.Status o) = 0
-replyNumber reply.NothingDue = 0
-replyNumber reply.Granted = 0
-replyNumber (reply.Acknowledged k) = 0
-replyNumber (reply.Aborted k) = 0
-replyNumber (reply.Ended e) = numberOf (e .refusal)
-replyNumber (reply.Refused n) = numberOf n
+replyNumber r = replyFields r 0 .number
 
 -- ---- what goes out
 

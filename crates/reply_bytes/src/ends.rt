@@ -6,11 +6,11 @@ ghost use lib.Seq.{paste};
 ghost use Rattle.answer_bytes.specs.Places.{answerLength};
 ghost use Rattle.reply_bytes.specs.Places.{transferAnswersLength};
 ghost use Rattle.reply_bytes.specs.Replies.{transferEndBytes, transferEndsBytes};
-use super::ending_fields;
 use super::goes::going_of_end;
 use super::goes::put_going;
 use answer::End;
 use answer::SlotEnd;
+use answer_bytes::ended_fields;
 use answer_bytes::places::ANSWER_BYTES;
 use answer_bytes::put_fields;
 use octets::copy;
@@ -31,7 +31,7 @@ fn put_end(s: SlotEnd, out: &mut [u8], at: usize)
             copy(out, at, &none, 0, ANSWER_BYTES);
         }
         End::Ended(e) => {
-            put_fields(ending_fields(e), out, at);
+            put_fields(ended_fields(17, e), out, at);
             put_going(going_of_end(e), out, at);
         }
     }

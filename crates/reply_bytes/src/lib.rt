@@ -4,13 +4,13 @@ ghost use mathlib.Core.Path.{_≡_};
 ghost use Prim.Native.Nat.{_%_};
 ghost use lib.ListN.{length};
 ghost use Rattle.answer_bytes.specs.Places.{answerLength};
-ghost use Rattle.reply_bytes.specs.Replies.{offerFields, segmentFields, endingFields, replyFields, replyNumber, replyBytes, givenBytes};
+ghost use Rattle.reply_bytes.specs.Replies.{offerFields, segmentFields, replyFields, replyNumber, replyBytes, givenBytes};
 
 pub mod ends;
 pub mod goes;
 
-use answer::Ending;
 use answer_bytes::Fields;
+use answer_bytes::ended_fields;
 use answer_bytes::keyed_fields;
 use answer_bytes::no_key;
 use answer_bytes::put_fields;
@@ -65,24 +65,6 @@ fn segment_fields(n: SegmentNumber, len: usize) -> Fields
     }
 }
 
-pub fn ending_fields(e: Ending) -> Fields
-    ensures { λ r. ⌜ r ≡ endingFields e ⌝ }
-{
-    let key = e.key;
-    let kind = e.kind;
-    let n = e.refusal;
-    Fields {
-        number: refusal::number(n),
-        code: 17,
-        key: key,
-        kind: kind_byte(kind),
-        extra: 0,
-        pgn: e.pgn,
-        total: 0,
-        segment: 0,
-    }
-}
-
 fn reply_fields(r: Reply, len: usize) -> Fields
     ensures { λ x. ⌜ x ≡ replyFields r len ⌝ }
 {
@@ -94,7 +76,7 @@ fn reply_fields(r: Reply, len: usize) -> Fields
         Reply::Granted => keyed_fields(14, 0, no_key()),
         Reply::Acknowledged(k) => keyed_fields(15, 0, k),
         Reply::Aborted(k) => keyed_fields(16, 0, k),
-        Reply::Ended(e) => ending_fields(e),
+        Reply::Ended(e) => ended_fields(17, e),
         Reply::Refused(n) => keyed_fields(18, refusal::number(n), no_key()),
     }
 }

@@ -26,11 +26,11 @@ use Rattle.isolation.specs.Rules.{stray}
 use Rattle.carried.specs.Shown.{replyIn}
 use Rattle.node.specs.Apart.{receiver-left, not-made}
 use Rattle.dwaebinam.specs.Node.{NodeFramed, nodeBytes, nodeTold, nodeFramedIn}
-use Rattle.together.specs.Seen.{sameBytes, Framed, isSenders, senderSeen}
+use Rattle.together.specs.Seen.{sameBytes, Framed, senderAnswers, senderSeen}
 
 -- ---- codes
 
-pub reply-code : (r : Reply) → isSenders (replyBytes r) ≡ true
+pub reply-code : (r : Reply) → senderAnswers (replyBytes r) ≡ true
 unfolding fieldsBytes
 reply-code (reply.Announced o) = refl
 reply-code (reply.Segment n) = refl
@@ -42,7 +42,7 @@ reply-code (reply.Aborted k) = refl
 reply-code (reply.Ended e) = refl
 reply-code (reply.Refused n) = refl
 
-pub answer-code : (x : Answer) → isSenders (answerBytes x) ≡ false
+pub answer-code : (x : Answer) → senderAnswers (answerBytes x) ≡ false
 unfolding fieldsBytes
 answer-code (answer.Groups route) = refl
 answer-code (answer.Opened k) = refl
@@ -83,11 +83,11 @@ module _ (b m s : List ℕ) (id : ℕ) (d a : List ℕ) where
   sender-out e = stays-by (let q = not-made b m s id d e in (ap (λ (x : List ℕ × (List ℕ × List ℕ)). x .0) q, ap (λ (x : List ℕ × (List ℕ × List ℕ)). x .1 .0) q))
 
   -- Nor does any frame that the sender answers, by the code in the answer's bytes.
-  pub answered-apart : length a ≡ answerLength → isSenders (nodeFramedIn b id d m s a .1 .1 .1 .1) ≡ true → Stays b m (nodeFramedIn b id d m s a)
+  pub answered-apart : length a ≡ answerLength → senderAnswers (nodeFramedIn b id d m s a .1 .1 .1 .1) ≡ true → Stays b m (nodeFramedIn b id d m s a)
   unfolding nodeIn
   answered-apart room e =
       let q : nodeFramedIn b id d m s a ≡ nodeTold (nodeIn b m s id d) = node-is b id d m s a room in
-      stays-by (go (receiver.readyIn b (length m)) (sender.readyIn s) (isResponders id d) (subst (λ (x : NodeFramed). isSenders (x .1 .1 .1 .1) ≡ true) q e))
+      stays-by (go (receiver.readyIn b (length m)) (sender.readyIn s) (isResponders id d) (subst (λ (x : NodeFramed). senderAnswers (x .1 .1 .1 .1) ≡ true) q e))
     where
       by : Bool → Bool → Bool → NodeCalled
       by x y z =
@@ -95,10 +95,10 @@ module _ (b m s : List ℕ) (id : ℕ) (d a : List ℕ) where
           (cond (not y) (Sender (reply.Refused OutOfBounds), (b, (m, s)))
           (cond z (bySender b m (hearIn s id d)) (byReceiver s (frameIn b id d m))))
 
-      not-receiver : {A : Type 0} (x : Answer) → isSenders (answerBytes x) ≡ true → A
+      not-receiver : {A : Type 0} (x : Answer) → senderAnswers (answerBytes x) ≡ true → A
       not-receiver x e = absurd (false≢true (sym (answer-code x) ∙ e))
 
-      go : (x y z : Bool) → isSenders (nodeBytes (by x y z .0)) ≡ true → Stays b m (nodeTold (by x y z))
+      go : (x y z : Bool) → senderAnswers (nodeBytes (by x y z .0)) ≡ true → Stays b m (nodeTold (by x y z))
       go false y z e = not-receiver (answer.Refused OutOfBounds) e
       go true false z e = (refl, refl)
       go true true true e = (refl, refl)

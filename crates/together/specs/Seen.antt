@@ -27,8 +27,8 @@ abbrev pub receiverPart : NodeFramed → Framed
 receiverPart x = (x .0, (x .1 .0, (x .1 .1 .0, x .1 .1 .1 .1)))
 
 -- the sender's answers have the codes from 10 on
-abbrev pub isSenders : List ℕ → Bool
-isSenders p = leb 10 (getD p codePlace 0)
+abbrev pub senderAnswers : List ℕ → Bool
+senderAnswers p = leb 10 (getD p codePlace 0)
 
 -- a call answered by the sender, lent the record b and m as the store
 abbrev pub senderSeen : List ℕ → List ℕ → Framed → List Seen
@@ -36,7 +36,7 @@ senderSeen b m x = cond (sameBytes (x .1 .0) b && sameBytes (x .1 .1 .0) m) [] (
 
 -- by the end that answered; seen is what is shown if it was the receiver
 abbrev pub seenBy : List ℕ → List ℕ → Framed → List Seen → List Seen
-seenBy b m x seen = cond (isSenders (x .1 .1 .1)) (senderSeen b m x) seen
+seenBy b m x seen = cond (senderAnswers (x .1 .1 .1)) (senderSeen b m x) seen
 
 abbrev pub nodeSeen : Values → ℕ → List ℕ → List ℕ → ℕ → List ℕ → Framed → List Seen
 nodeSeen v k b m id d x = seenBy b m x (frameSeenAs v k (recordAt b) id d (outcomeOf x) (replyIn x))

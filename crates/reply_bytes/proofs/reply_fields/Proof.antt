@@ -58,8 +58,8 @@ keyed-fields-requires-4 c κs = search needs
 enum-known-r-6 : tie.Need-enum-known-r-6
 enum-known-r-6 c = search needs
 
-ending-fields-requires : tie.Need-ending-fields-requires
-ending-fields-requires c κs = search needs
+ended-fields-requires : tie.Need-ended-fields-requires
+ended-fields-requires c κs = search needs
 
 enum-known-r-7 : tie.Need-enum-known-r-7
 enum-known-r-7 c = search needs
@@ -111,7 +111,7 @@ returns-7 c =
 returns-8 : tie.Need-returns-8
 returns-8 c =
     let len = c .before .before .before .before .args .len in
-    c .ending-fields .ensures ∙ sym (ap (λ (r : Reply). replyFields r len) (c .before .before .r6 .given .1))
+    c .ended-fields .ensures ∙ sym (ap (λ (r : Reply). replyFields r len) (c .before .before .r6 .given .1))
 
 returns-9 : tie.Need-returns-9
 returns-9 c =
@@ -143,7 +143,7 @@ reply-fields-spec =
     enum-known-r-5
     keyed-fields-requires-4
     enum-known-r-6
-    ending-fields-requires
+    ended-fields-requires
     enum-known-r-7
     number-requires
     no-key-requires-3

@@ -4,7 +4,8 @@ use denote.Ref.{now}
 use Rattle.answer.specs.declared.End.{End}
 use Rattle.transfer.specs.Sends.{endingWire}
 use Rattle.answer_bytes.specs.Places.{answerLength}
-use Rattle.reply_bytes.specs.Replies.{endingFields, wireBytes, transferEndBytes}
+use Rattle.answer_bytes.specs.Answers.{endedFields}
+use Rattle.reply_bytes.specs.Replies.{wireBytes, transferEndBytes}
 use Rattle.reply_bytes.specs.Laws.{length-ending}
 use Rattle.reply_bytes.proofs.Written.{placed}
 use borrow.Author.Needs.{needs}
@@ -23,8 +24,8 @@ copy-requires c κs = search needs
 enum-known-end : tie.Need-enum-known-end
 enum-known-end c = search needs
 
-ending-fields-requires : tie.Need-ending-fields-requires
-ending-fields-requires c κs = search needs
+ended-fields-requires : tie.Need-ended-fields-requires
+ended-fields-requires c κs = search needs
 
 put-fields-requires : tie.Need-put-fields-requires
 put-fields-requires c κs = search needs
@@ -59,8 +60,8 @@ returns-2 c =
     let a = known .before .before .before .args in
     let e = known .end .given .0 .0 in
     let d = now (a .out) in
-    placed (fields .ending-fields .result) (endingFields e) (said .going-of-end .result) (wireBytes (endingWire e)) (length-ending e)
-    (fields .ending-fields .ensures) (said .going-of-end .ensures) d (put .put-fields .last .1 .0) (going .put-going .last .1 .0)
+    placed (fields .ended-fields .result) (endedFields 17 e) (said .going-of-end .result) (wireBytes (endingWire e)) (length-ending e)
+    (fields .ended-fields .ensures) (said .going-of-end .ensures) d (put .put-fields .last .1 .0) (going .put-going .last .1 .0)
     (a .at) (search needs) (put .put-fields .ensures) (going .put-going .ensures)
     ∙ ap (λ (x : End). paste d (a .at) (transferEndBytes x) answerLength) (sym (known .end .given .1))
 
@@ -72,7 +73,7 @@ put-end-spec =
     slice-aggregate-copy
     copy-requires
     enum-known-end
-    ending-fields-requires
+    ended-fields-requires
     put-fields-requires
     going-of-end-requires
     put-going-requires
