@@ -18,7 +18,7 @@ use Rattle.frame.specs.Identifiers.{identifierOf}
 use Rattle.frame.specs.declared.judge.Verdict.the-variants.{Control, Refused}
 use Rattle.frame.specs.Judge.{routeOf, routeTaken, byFormat, judged}
 use Rattle.frame.specs.Lengths.{frameLength}
-use Rattle.frame.specs.LengthLaws.{frame-least, frame-bounds, is-among}
+use Rattle.frame.specs.LengthLaws.{frame-least, frame-bounds}
 use Rattle.transport.specs.declared.control.Control as control-type
 use Rattle.transport.specs.declared.control.Control.the-variants as control
 use Rattle.transport.specs.Heads.{head, controlAt, idTo, toOriginator}
@@ -213,7 +213,7 @@ module _ (s : Setting) (fair : Fair s) where
     fd-length : isOneOf (length (frameOf n)) fdLengths ≡ true
     fd-length =
         let u : length (pieceOf (s .message) n) ≤ 60 = piece-bounds .1 in
-        rw (long, length-same (frameLength (4 + length (pieceOf (s .message) n))), is-among (frameLength (4 + length (pieceOf (s .message) n))))
+        rw (long, length-same (frameLength (4 + length (pieceOf (s .message) n))))
         (frame-least (4 + length (pieceOf (s .message) n)) (omega arith) .member)
 
     longer : 4 + length (pieceOf (s .message) n) ≤ length (frameOf n)

@@ -1,4 +1,4 @@
--- The data lengths of a CAN FD frame: 01, "Numbers that hold everywhere".
+-- The data lengths of a CAN FD frame: 01, "Numbers that hold everywhere". All that is said of lengths goes by this one list.
 use Prim.Native.Nat.{ℕ}
 use mathlib.Core.Bool.{Bool, true, false, cond, _||_}
 use mathlib.Core.List.{List, [], _∷_}
@@ -9,8 +9,12 @@ use Rattle.frame.specs.declared.length.Least.the-variants.{Length, Nothi
 abbrev pub lengths : List ℕ
 lengths = 0 ∷ 1 ∷ 2 ∷ 3 ∷ 4 ∷ 5 ∷ 6 ∷ 7 ∷ 8 ∷ 12 ∷ 16 ∷ 20 ∷ 24 ∷ 32 ∷ 48 ∷ 64 ∷ []
 
+abbrev pub among : ℕ → List ℕ → Bool
+among m [] = false
+among m (n ∷ ns) = eqb m n || among m ns
+
 abbrev pub isLength : ℕ → Bool
-isLength n = leb n 8 || eqb n 12 || eqb n 16 || eqb n 20 || eqb n 24 || eqb n 32 || eqb n 48 || eqb n 64
+isLength n = among n lengths
 
 -- the first of a list that holds the need
 abbrev pub firstHolding : ℕ → List ℕ → Least

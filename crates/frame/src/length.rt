@@ -1,14 +1,20 @@
-// The data lengths of a CAN FD frame (01, "Numbers that hold everywhere").
+// The data lengths of a CAN FD frame (01, "Numbers that hold everywhere"), and what is found from their list.
 ghost use mathlib.Core.Path.{_≡_};
 ghost use Rattle.frame.specs.Lengths.{isLength, leastLength, frameLength};
 
-// In rising order.
+// In rising order, so that the first that holds a need is the least.
 const LENGTHS: [usize; 16] = [0, 1, 2, 3, 4, 5, 6, 7, 8, 12, 16, 20, 24, 32, 48, 64];
 
+// Whether n is one of the lengths. Every frame is asked this; since the loop has no way out, the compiler makes six comparisons of it.
 pub fn is_length(n: usize) -> bool
     ensures { λ r. ⌜ r ≡ isLength n ⌝ }
 {
-    (n <= 8) | (n == 12) | (n == 16) | (n == 20) | (n == 24) | (n == 32) | (n == 48) | (n == 64)
+    let lengths = LENGTHS;
+    let mut found = false;
+    for i in 0..16 {
+        found = found | (n == lengths[i]);
+    }
+    found
 }
 
 pub enum Least {
@@ -21,17 +27,16 @@ pub fn least_length(need: usize) -> Least
     ensures { λ r. ⌜ r ≡ leastLength need ⌝ }
 {
     let lengths = LENGTHS;
-    let mut i: usize = 0;
-    while i < 16 {
-        if need <= lengths[i] {
-            return Least::Length(lengths[i]);
+    for i in 0..16 {
+        let length = lengths[i];
+        if need <= length {
+            return Least::Length(length);
         }
-        i = i + 1;
     }
     Least::Nothing
 }
 
-// The length of a frame that holds need bytes.
+// The length of a frame that holds need bytes; 64 for more, which no caller has.
 pub fn frame_length(need: usize) -> usize
     ensures { λ r. ⌜ r ≡ frameLength need ⌝ }
 {

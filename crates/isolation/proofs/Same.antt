@@ -12,7 +12,6 @@ use Rattle.frame.specs.declared.refusal.Refusal.{Refusal}
 use Rattle.frame.specs.declared.refusal.Refusal.the-variants.{PgnForm, AnnouncementForm, TooLong, Assurance, KeyOpen, SlotsFull, OutOfSequence, StatusMismatch, Silence}
 use Rattle.frame.specs.Refusals.{numberOf}
 use Rattle.frame.specs.Lengths.{isLength}
-use Rattle.frame.specs.LengthLaws.{is-among}
 use Rattle.frame.specs.Pgn.{pgnOk}
 use Rattle.transport.specs.Reasons.{reasonOf}
 use Rattle.transport.specs.declared.Kind.{Kind}
@@ -70,7 +69,7 @@ reason-same T.silent = refl
 
 pub length-same : (n : ℕ) → isOneOf n fdLengths ≡ isLength n
 unfolding isOneOf fdLengths
-length-same n = sym (is-among n)
+length-same n = refl
 
 pub pgn-same : (pgn : ℕ) → inPgnForm pgn ≡ pgnOk pgn
 unfolding inPgnForm

@@ -24,7 +24,7 @@ use Rattle.multi_pg.specs.Reader.{Chain, last, link, chain-good}
 use Rattle.multi_pg.specs.Table.{groups, shownBy, shown}
 use Rattle.packing.specs.declared.Packed.{Packed}
 use Rattle.packing.specs.declared.Packed.the-variants.{Frame, Refused}
-use Rattle.frame.specs.LengthLaws.{LeastOf, is-among, frame-least}
+use Rattle.frame.specs.LengthLaws.{LeastOf, frame-least}
 use Rattle.packing.specs.Packing.{headerOf, body, padding, sum, needed, pgnsOk, requestFits, frameOf, packed}
 use Rattle.packing.specs.Shapes.{Met, request-met, padding-at, length-frame}
 
@@ -201,9 +201,9 @@ module _ (pgns lengths d out : List ℕ) where
         whole = requested-whole pgns lengths d (m .even) (m .whole);
         same = ap shown t ∙ frame-says pgns lengths d p (m .even) (m .whole);
         long = ap length t ∙ s;
-        allowed = is-among (frameLength (needed lengths)) ∙ l .member;
+        allowed = l .member;
         holds = l .holds;
-        least = λ k a h. l .least k (sym (is-among k) ∙ a) h;
+        least = l .least;
         rest =
             ap (drop (frameLength (needed lengths))) w
             ∙ drop-at (frameOf pgns lengths d) (drop (frameLength (needed lengths)) out) (frameLength (needed lengths)) s;

@@ -10,6 +10,7 @@ use lib.Seq.{getD-append-add, getD-drop}
 use borrow.Author.Tests.{eqb-true, eq-eqb, not-false}
 use Rattle.laws.specs.Choice.{else}
 use Rattle.frame.specs.Lengths.{isLength}
+use Rattle.frame.specs.LengthLaws.{length-to}
 use Rattle.frame.specs.declared.refusal.Refusal.{Refusal}
 use Rattle.frame.specs.declared.refusal.Refusal.the-variants.{FrameLength, OutOfBounds}
 use Rattle.multi_pg.specs.declared.Group.{Group}
@@ -17,7 +18,7 @@ use Rattle.multi_pg.specs.Groups.{GroupsRead, good, bad, groupsRead, groupsIn, 
 use Rattle.unpacking.specs.declared.Unpacked.{Unpacked}
 use Rattle.unpacking.specs.declared.Unpacked.the-variants.{Groups, Refused}
 use Rattle.unpacking.specs.Unpacking.{rows, unpackedBy, unpacked}
-use Rattle.unpacking.specs.Count.{few, length-to}
+use Rattle.unpacking.specs.Count.{few}
 
 -- ---- a group's numbers among those of all
 

@@ -8,12 +8,12 @@ use denote.Ref.{now}
 use borrow.Author.Tests.{eq-eqb, ne-eqb, not-true, not-false}
 use Rattle.laws.specs.Choice.{then, else}
 use Rattle.frame.specs.Lengths.{isLength}
+use Rattle.frame.specs.LengthLaws.{length-to}
 use Rattle.frame.specs.declared.refusal.Refusal.the-variants.{FrameLength, OutOfBounds}
 use Rattle.multi_pg.specs.Groups.{groupsRead}
 use Rattle.unpacking.specs.declared.Unpacked.{Unpacked}
 use Rattle.unpacking.specs.declared.Unpacked.the-variants.{Refused}
 use Rattle.unpacking.specs.Unpacking.{unpackedBy, unpacked}
-use Rattle.unpacking.specs.Count.{length-to}
 use borrow.Author.Needs.{needs}
 use Rattle.unpacking.proofs.unpack.Statement.{statement}
 use Rattle.unpacking.proofs.unpack.Tie as tie

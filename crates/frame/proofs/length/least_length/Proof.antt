@@ -1,5 +1,5 @@
 use Prim.Native.Nat.{ℕ, _+_, _-_, _≤_, _<_}
-use mathlib.Core.Path.{_≡_, refl, sym, ap, _∙_}
+use mathlib.Core.Path.{_≡_, refl, sym, _∙_}
 use mathlib.Core.List.{_∷_}
 use lib.ListN.{drop, getD}
 use lib.Dec.{leb}
@@ -34,17 +34,11 @@ abbrev μ-loop : tie.MeasureT-loop
 loop-holds : tie.Need-loop-holds Inv-loop μ-loop
 loop-holds c = search needs
 
-mul-if1 : tie.Need-mul-if1 Inv-loop μ-loop
-mul-if1 c = search needs
+mul-length : tie.Need-mul-length Inv-loop μ-loop
+mul-length c = search needs
 
-array-read-if1 : tie.Need-array-read-if1 Inv-loop μ-loop
-array-read-if1 c = search needs
-
-mul-t10 : tie.Need-mul-t10 Inv-loop μ-loop
-mul-t10 c = search needs
-
-array-read-t13 : tie.Need-array-read-t13 Inv-loop μ-loop
-array-read-t13 c = search needs
+array-read-length : tie.Need-array-read-length Inv-loop μ-loop
+array-read-length c = search needs
 
 returns : tie.Need-returns Inv-loop μ-loop
 returns c = found (c .before .before .before .args .need) (c .before .before .loop .i) (omega arith) (c .before .before .loop .inv .1) (c .if1 .taken)
@@ -69,10 +63,8 @@ least-length-spec =
     Inv-loop
     μ-loop
     loop-holds
-    mul-if1
-    array-read-if1
-    mul-t10
-    array-read-t13
+    mul-length
+    array-read-length
     returns
     add-i
     loop-less
