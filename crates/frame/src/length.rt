@@ -5,7 +5,7 @@ ghost use Rattle.frame.specs.Lengths.{isLength, leastLength, frameLength
 // In rising order, so that the first that holds a need is the least.
 const LENGTHS: [usize; 16] = [0, 1, 2, 3, 4, 5, 6, 7, 8, 12, 16, 20, 24, 32, 48, 64];
 
-// Whether n is one of the lengths. Every frame is asked this; since the loop has no way out, the compiler makes six comparisons of it.
+// Whether n is one of the lengths. Every frame is asked this, so the loop has no early return: the compiler makes six comparisons of it.
 pub fn is_length(n: usize) -> bool
     ensures { λ r. ⌜ r ≡ isLength n ⌝ }
 {
