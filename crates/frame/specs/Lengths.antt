@@ -1,4 +1,4 @@
--- The data lengths of a CAN FD frame: 01, "Numbers that hold everywhere". All that is said of lengths goes by this one list.
+-- The data lengths of a CAN FD frame: 01, "Numbers that hold everywhere". What a length is and which is the next both go by this one list.
 use Prim.Native.Nat.{ℕ}
 use mathlib.Core.Bool.{Bool, true, false, cond, _||_}
 use mathlib.Core.List.{List, [], _∷_}
