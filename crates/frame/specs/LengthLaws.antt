@@ -3,7 +3,7 @@ use Prim.Native.Nat.{ℕ, _+_, _≤_, _<_}
 use native.Mathlib.Decide.{decLe}
 use native.Mathlib.Omega.{arith}
 use mathlib.Core.Path.{_≡_, refl, sym}
-use mathlib.Core.Bool.{Bool, true, false, cond, _&&_, _||_, false≢true}
+use mathlib.Core.Bool.{Bool, true, false, cond, _&&_, false≢true}
 use mathlib.Mathlib.Data.Bool.Basic.{or-inr}
 use mathlib.Core.Logic.{⊎-elim}
 use mathlib.Core.List.{List, [], _∷_}
@@ -11,7 +11,7 @@ use lib.Dec.{eqb, leb}
 use borrow.Author.Tests.{eqb-true, leb-true, leb-false, eq-eqb}
 use Rattle.laws.specs.Bools.{or-either}
 use Rattle.laws.specs.Choice.{or-stop, each-of}
-use Rattle.frame.specs.Lengths.{lengths, among, isLength, firstHolding, leastLength, holding, frameLength}
+use Rattle.frame.specs.Lengths.{lengths, among, isLength, firstHolding, leastLength, frameLength}
 use Rattle.frame.specs.declared.length.Least.{Least}
 use Rattle.frame.specs.declared.length.Least.the-variants.{Length, Nothing}
 

@@ -1,6 +1,6 @@
 -- The data lengths of a CAN FD frame: 01, "Numbers that hold everywhere". What a length is and which is the next both go by this one list.
 use Prim.Native.Nat.{ℕ}
-use mathlib.Core.Bool.{Bool, true, false, cond, _||_}
+use mathlib.Core.Bool.{Bool, false, cond, _||_}
 use mathlib.Core.List.{List, [], _∷_}
 use lib.Dec.{eqb, leb}
 use Rattle.frame.specs.declared.length.Least.{Least}
