@@ -8,7 +8,7 @@
 #include <stdio.h>
 #include <string.h>
 
-enum { HEAD = 33, LAMP = 128, EVERYONE = 255, SESSION = 3, PGN = 61184, LIMIT = 1250, TABLE_BYTES = 300, ROOM = 4 };
+enum { HEAD = 33, LAMP = 128, EVERYONE = 255, SESSION = 3, PGN = 61184, LIMIT = 1250, BETWEEN = 750, TABLE_BYTES = 300, ROOM = 4 };
 
 struct frame {
     uint32_t id;
@@ -178,7 +178,7 @@ int main(void)
     for (size_t i = 0; i < sizeof table; i++)
         table[i] = (uint8_t)(200 + i % 7 - i / 50);
     expect(dwb_sender_open(lamp, sizeof lamp, LAMP, LIMIT, now) == 0, "the lamp opens");
-    expect(dwb_open(record, sizeof record, HEAD, LIMIT, now) == 0, "the head's receiver opens");
+    expect(dwb_open(record, sizeof record, HEAD, LIMIT, BETWEEN, now) == 0, "the head's receiver opens");
     expect(dwb_sender_open(head_sender, sizeof head_sender, HEAD, LIMIT, now) == 0, "the head's sender opens");
     transfer("by RTS", HEAD);
     memset(message, 0, sizeof message);

@@ -136,7 +136,7 @@ static void two_groups(void)
 int main(void)
 {
     expect(dwb_version() == DWB_VERSION, "the archive is the header's");
-    expect(dwb_open(record, sizeof record, OWN, 1250, 0) == 0, "the receiver opens");
+    expect(dwb_open(record, sizeof record, OWN, 1250, 750, 0) == 0, "the receiver opens");
     two_messages();
     two_groups();
     printf("%d faults\n", faults);

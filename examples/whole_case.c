@@ -67,7 +67,7 @@ int main(void)
     static const uint8_t rts[] = {0x30, 61, 0, 0, 2, 0, 0, 255, 0, 0xCA, 0xFE, 0x00};
     static const uint8_t segment_2[] = {0x30, 2, 0, 0, 0x11};
 
-    if (dwb_version() != DWB_VERSION || dwb_open(record, sizeof record, 33, 1250, 0) != 0)
+    if (dwb_version() != DWB_VERSION || dwb_open(record, sizeof record, 33, 1250, 1250, 0) != 0)
         return 1;
     take_reading(0);
     take_frame(0x18252180, multi_pg, sizeof multi_pg);

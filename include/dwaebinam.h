@@ -10,12 +10,12 @@
 
 /* The version of this boundary. It goes up with every change of a call, a length, a place or a code below. dwb_version answers the
    archive's: where the two differ, the program was compiled with the header of another archive, and must make no other call. */
-#define DWB_VERSION 2
+#define DWB_VERSION 3
 uint32_t dwb_version(void);
 
 /* The receiver's record is opaque: dwb_open fills it, and no other than these calls should read or write it. It holds no pointer, so it
    may be copied and moved. A record that was changed by someone else is refused with 23 if it is out of bounds. */
-#define DWB_RECORD_BYTES 249
+#define DWB_RECORD_BYTES 261
 
 /* The store: eight slots, one after the other. What it holds at first does not matter. */
 #define DWB_SLOT_BYTES 4096
@@ -127,9 +127,12 @@ enum {
 /* The least data length of a CAN FD frame that holds need bytes; 255 for more than 64. */
 size_t dwb_least_length(size_t need);
 
-/* Opens a receiver with no slot open in record: 0, or 23 for own over 253, or limit 0 or over 60,000. A refused opening writes a
-   record that every call refuses with 23. A buffer not of DWB_RECORD_BYTES is refused with 23 and stays as it was. */
-uint8_t dwb_open(uint8_t *record, size_t record_bytes, uint8_t own, uint32_t limit, uint32_t reading);
+/* Opens a receiver with no slot open in record: 0, or 23 for own over 253, or a limit 0 or over 60,000. A refused opening writes a
+   record that every call refuses with 23. A buffer not of DWB_RECORD_BYTES is refused with 23 and stays as it was.
+
+   A session may be silent for less than first milliseconds after a CTS, and for less than second after a segment that brought none, or
+   after the last one; a BAM is given no CTS, and has only the second limit. */
+uint8_t dwb_open(uint8_t *record, size_t record_bytes, uint8_t own, uint32_t first, uint32_t second, uint32_t reading);
 
 /* Takes one frame with the identifier id: the answer's number, with the answer written, and the record and the store changed where the
    answer says so. 23 for a buffer that is no record, a record out of bounds, or a store not of DWB_STORE_BYTES: the answer says so, and
@@ -143,8 +146,8 @@ uint8_t dwb_open(uint8_t *record, size_t record_bytes, uint8_t own, uint32_t lim
 uint8_t dwb_frame(uint8_t *record, size_t record_bytes, uint32_t id, const uint8_t *bytes, size_t bytes_len,
                   uint8_t *store, size_t store_bytes, uint8_t *answer, size_t answer_bytes);
 
-/* Takes one reading of the clock: each session that was silent for the idle limit ends, and its answer (DWB_ENDED, number 22) is at
-   DWB_ANSWER_BYTES times its slot's number in answers; the bytes of every other slot are zeros there. 0, or 23 as for a frame, with the
+/* Takes one reading of the clock: each session that was silent for the limit in force ends, and its answer (DWB_ENDED, number 22) is
+   at DWB_ANSWER_BYTES times its slot's number in answers; the bytes of every other slot are zeros there. 0, or 23 as for a frame, with the
    record as it was and zeros in answers. answers not of DWB_ANSWERS_BYTES are refused with 23, and every buffer stays as it was. */
 uint8_t dwb_reading(uint8_t *record, size_t record_bytes, uint32_t reading, const uint8_t *store, size_t store_bytes,
                     uint8_t *answers, size_t answers_bytes);
@@ -154,7 +157,7 @@ uint8_t dwb_reading(uint8_t *record, size_t record_bytes, uint32_t reading, cons
 size_t dwb_message(const uint8_t *answer, size_t answer_bytes, const uint8_t *store, size_t store_bytes,
                    uint8_t *out, size_t out_bytes);
 
-/* Opens a sender with no transfer open in sender: as dwb_open, for a buffer of DWB_SENDER_BYTES. */
+/* Opens a sender with no transfer open in sender: as dwb_open, with one limit, for a buffer of DWB_SENDER_BYTES. */
 uint8_t dwb_sender_open(uint8_t *sender, size_t sender_bytes, uint8_t own, uint32_t limit, uint32_t reading);
 
 /* Announces message, of 1 to 4,096 bytes, to the destination da under a session number of 0 to 15: by BAM for 255, else by RTS. The

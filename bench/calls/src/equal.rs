@@ -1,11 +1,23 @@
 //! Both sides give equal answers: an answer and a record of the plain receiver as include/dwaebinam.h lays them out.
 
 pub mod sending;
+pub mod waits;
 
-use crate::frames::{Frame, LIMIT, OWN};
-use crate::ours::{Ours, ANSWER_BYTES, RECORD_BYTES, STORE_BYTES};
-use plain::receiver::{Answer, Receiver};
+use crate::frames::{Frame, LIMITS, OWN};
+use crate::ours::{Ours, ANSWERS_BYTES, ANSWER_BYTES, RECORD_BYTES, STORE_BYTES};
+use plain::receiver::{Answer, Limits, Receiver, Wait};
 use plain::transport::{Key, Sent};
+
+/// Places in the record, by docs/WIRE.md, and in one of its slots.
+const FIRST_AT: usize = 1;
+const SECOND_AT: usize = 5;
+const LAST_AT: usize = 9;
+const SLOT_RECORD_BYTES: usize = 31;
+const WAIT_AT: usize = 30;
+
+fn slot_at(slot: usize) -> usize {
+    13 + SLOT_RECORD_BYTES * slot
+}
 
 fn put(out: &mut [u8], at: usize, value: u32) {
     out[at..at + 4].copy_from_slice(&value.to_le_bytes());
@@ -17,6 +29,13 @@ fn put_key(out: &mut [u8], at: usize, key: Key) {
 
 fn kind(is_bam: bool) -> u8 {
     1 + u8::from(is_bam)
+}
+
+fn wait_code(wait: Wait) -> u8 {
+    match wait {
+        Wait::First => 1,
+        Wait::Second => 2,
+    }
 }
 
 fn put_sent(out: &mut [u8; ANSWER_BYTES], sent: &Sent) {
@@ -106,10 +125,19 @@ fn answer_bytes(answer: &Answer) -> [u8; ANSWER_BYTES] {
 }
 
 /// The plain receiver's record over `ours`: of a free slot only the first byte, since the rest has no meaning.
-fn record_over<const CHECKED: bool>(receiver: &Receiver<CHECKED>, ours: &[u8; RECORD_BYTES]) -> [u8; RECORD_BYTES] {
+fn record_over<const CHECKED: bool>(
+    receiver: &Receiver<CHECKED>,
+    ours: &[u8; RECORD_BYTES],
+    limits: Limits,
+    last: u32,
+) -> [u8; RECORD_BYTES] {
     let mut out = *ours;
+    out[0] = OWN;
+    put(&mut out, FIRST_AT, limits.first);
+    put(&mut out, SECOND_AT, limits.second);
+    put(&mut out, LAST_AT, last);
     for (i, slot) in receiver.slots().iter().enumerate() {
-        let piece = &mut out[9 + 30 * i..][..30];
+        let piece = &mut out[slot_at(i)..][..SLOT_RECORD_BYTES];
         let Some(s) = slot else {
             piece[0] = 0;
             continue;
@@ -126,33 +154,96 @@ fn record_over<const CHECKED: bool>(receiver: &Receiver<CHECKED>, ours: &[u8; RE
             put(piece, 22, s.granted);
         }
         put(piece, 26, s.mark);
+        piece[WAIT_AT] = wait_code(s.wait);
     }
     out
 }
 
-/// Runs both sides over the frames and compares after each: number, answer, record, and now and then the store. How often each number
-/// was the answer.
-pub fn compare<const CHECKED: bool>(name: &str, frames: &[Frame]) -> [usize; 256] {
-    let mut seen = [0; 256];
-    let mut ours = Ours::open(OWN, LIMIT, 7);
-    let mut receiver = Receiver::<CHECKED>::open(OWN, LIMIT, 7);
-    let mut store = vec![0; STORE_BYTES];
-    for (i, frame) in frames.iter().enumerate() {
-        let number = ours.frame(frame.id, frame.bytes());
-        let answer = receiver.frame(frame.id, frame.bytes(), &mut store);
-        if let Answer::HandedOver { slot, message, .. } = &answer {
-            assert!(&ours.store[4096 * usize::from(*slot)..][..message.len()] == *message);
-        }
-        let expected = answer_bytes(&answer);
-        seen[usize::from(number)] += 1;
-        assert_eq!(number, expected[0], "number, frame {i} of {name}");
-        assert_eq!(ours.answer, expected, "answer, frame {i} of {name}");
-        assert_eq!(ours.record, record_over(&receiver, &ours.record), "record, frame {i} of {name}");
-        if i % 64 == 63 || i + 1 == frames.len() {
-            assert!(ours.store == store, "store, frame {i} of {name}");
+/// Gives both sides a reading and compares their answers: the number, and how many sessions have ended.
+fn read<const CHECKED: bool>(ours: &mut Ours, receiver: &mut Receiver<CHECKED>, now: u32, what: &str) -> (u8, usize) {
+    let mut answers = [0x55; ANSWERS_BYTES];
+    let mut expected = [0; ANSWERS_BYTES];
+    let mut ended = 0;
+    let number = boundary::reading(&mut ours.record, now, &ours.store, &mut answers);
+    let result = receiver.reading(now, |slot, answer| {
+        expected[ANSWER_BYTES * slot..][..ANSWER_BYTES].copy_from_slice(&answer_bytes(&answer));
+        ended += 1;
+    });
+    assert_eq!(number, result.err().unwrap_or(0), "number, {what}");
+    assert_eq!(answers, expected, "answers, {what}");
+    (number, ended)
+}
+
+/// Both sides of a receiver; each call is made on both and compared: number, answer, record, and now and then the store.
+struct Pair<const CHECKED: bool> {
+    name: String,
+    ours: Ours,
+    plain: Receiver<CHECKED>,
+    store: Vec<u8>,
+    limits: Limits,
+    last: u32,
+    calls: usize,
+    /// How often each number was the answer.
+    seen: [usize; 256],
+}
+
+impl<const CHECKED: bool> Pair<CHECKED> {
+    fn open(name: &str, limits: Limits, reading: u32) -> Self {
+        Pair {
+            name: name.to_string(),
+            ours: Ours::open(OWN, limits, reading),
+            plain: Receiver::open(OWN, limits, reading),
+            store: vec![0; STORE_BYTES],
+            limits,
+            last: reading,
+            calls: 0,
+            seen: [0; 256],
         }
     }
-    seen
+
+    fn agree(&mut self, number: u8) {
+        let (calls, name) = (self.calls, &self.name);
+        let expected = record_over(&self.plain, &self.ours.record, self.limits, self.last);
+        assert_eq!(self.ours.record, expected, "record, call {calls} of {name}");
+        if calls % 64 == 63 {
+            self.agree_on_store();
+        }
+        self.calls += 1;
+        self.seen[usize::from(number)] += 1;
+    }
+
+    fn agree_on_store(&self) {
+        assert!(self.ours.store == self.store, "store, call {} of {}", self.calls, self.name);
+    }
+
+    fn frame(&mut self, frame: &Frame) {
+        let (calls, name) = (self.calls, &self.name);
+        let number = self.ours.frame(frame.id, frame.bytes());
+        let answer = self.plain.frame(frame.id, frame.bytes(), &mut self.store);
+        if let Answer::HandedOver { slot, message, .. } = &answer {
+            assert!(&self.ours.store[4096 * usize::from(*slot)..][..message.len()] == *message);
+        }
+        let expected = answer_bytes(&answer);
+        assert_eq!(number, expected[0], "number, call {calls} of {name}");
+        assert_eq!(self.ours.answer, expected, "answer, call {calls} of {name}");
+        self.agree(number);
+    }
+
+    fn reading(&mut self, now: u32) {
+        let what = format!("call {} of {}", self.calls, self.name);
+        let (number, ended) = read(&mut self.ours, &mut self.plain, now, &what);
+        self.last = now;
+        self.agree(number);
+        self.seen[22] += ended;
+    }
+}
+
+/// Runs both sides over the frames. How often each number was the answer.
+pub fn compare<const CHECKED: bool>(name: &str, frames: &[Frame]) -> [usize; 256] {
+    let mut pair = Pair::<CHECKED>::open(name, LIMITS, 7);
+    frames.iter().for_each(|frame| pair.frame(frame));
+    pair.agree_on_store();
+    pair.seen
 }
 
 pub fn compare_groups(name: &str, frames: &[Frame]) {

@@ -1,10 +1,17 @@
 //! The frames that both sides are given. They are the same in every run.
 
+use plain::receiver::{Limits, Session};
+
 pub const OWN: u8 = 33;
+/// The idle limit of a sender.
 pub const LIMIT: u32 = 1250;
+/// Those of a receiver.
+pub const LIMITS: Limits = Limits {
+    first: LIMIT,
+    second: LIMIT,
+};
 /// The largest message: 69 segments.
 pub const TOTAL: u32 = 4096;
-const SEGMENTS: u32 = TOTAL.div_ceil(60);
 
 #[derive(Clone, Copy)]
 pub struct Frame {
@@ -110,50 +117,80 @@ pub struct Sender {
     number: u8,
     is_bam: bool,
     pgn: u32,
+    total: u32,
+    /// MAX SGMTS.
+    max: u8,
 }
 
 impl Sender {
-    /// The n-th of eight: RTS and BAM in turn, some of one address.
+    /// The n-th of eight: RTS and BAM in turn, some of one address, with the largest message.
     pub fn nth(n: u8) -> Self {
         Sender {
             sa: 0x80 + n / 3,
             number: n,
             is_bam: n % 2 == 1,
             pgn: 0xfe00 + u32::from(n),
+            total: TOTAL,
+            max: 255,
+        }
+    }
+
+    /// The same with another message, of at most ten segments, and small grants.
+    pub fn with_small_grants(self, dice: &mut Dice) -> Self {
+        Sender {
+            total: 1 + dice.roll(600) as u32,
+            max: 1 + dice.roll(4) as u8,
+            ..self
+        }
+    }
+
+    fn da(&self) -> u8 {
+        if self.is_bam {
+            255
+        } else {
+            OWN
         }
     }
 
     fn id(&self, pf: u32) -> u32 {
-        let da = if self.is_bam { 255 } else { OWN };
-        7 << 26 | pf << 16 | u32::from(da) << 8 | u32::from(self.sa)
+        7 << 26 | pf << 16 | u32::from(self.da()) << 8 | u32::from(self.sa)
+    }
+
+    /// Whether a session is this sender's.
+    pub fn has(&self, s: &Session) -> bool {
+        (s.key.sa(), s.key.da(), s.key.number()) == (self.sa, self.da(), self.number)
+    }
+
+    pub fn segments(&self) -> u32 {
+        self.total.div_ceil(60)
     }
 
     fn control(&self, control: u8, max: u8) -> Frame {
         let mut bytes = [0; 12];
         bytes[0] = self.number << 4 | control;
-        bytes[1..4].copy_from_slice(&TOTAL.to_le_bytes()[..3]);
-        bytes[4..7].copy_from_slice(&SEGMENTS.to_le_bytes()[..3]);
+        bytes[1..4].copy_from_slice(&self.total.to_le_bytes()[..3]);
+        bytes[4..7].copy_from_slice(&self.segments().to_le_bytes()[..3]);
         bytes[7] = max;
         bytes[9..12].copy_from_slice(&self.pgn.to_le_bytes()[..3]);
         Frame::new(self.id(77), &bytes)
     }
 
     pub fn announcement(&self) -> Frame {
-        self.control(if self.is_bam { 4 } else { 0 }, 255)
+        self.control(if self.is_bam { 4 } else { 0 }, self.max)
     }
 
-    fn segment(&self, n: u32) -> Frame {
+    pub fn segment(&self, n: u32) -> Frame {
         let mut dice = Dice(u64::from(self.number) << 32 | u64::from(n));
         let mut bytes = [0; 64];
         bytes[0] = self.number << 4;
         bytes[1..4].copy_from_slice(&n.to_le_bytes()[..3]);
         bytes[4..].fill_with(|| dice.roll(256) as u8);
-        let due = (TOTAL - 60 * (n - 1)).min(60) as usize;
+        let due = (self.total - 60 * (n - 1)).min(60) as usize;
         let length = [20, 64][usize::from(due > 16)];
         Frame::new(self.id(78), &bytes[..length])
     }
 
-    fn status(&self) -> Frame {
+    pub fn status(&self) -> Frame {
         self.control(2, 255)
     }
 }
@@ -161,7 +198,7 @@ impl Sender {
 /// Whole transfers, their segments in turn.
 pub fn transfers(senders: &[Sender]) -> Vec<Frame> {
     let mut frames: Vec<Frame> = senders.iter().map(Sender::announcement).collect();
-    for n in 1..=SEGMENTS {
+    for n in 1..=TOTAL.div_ceil(60) {
         frames.extend(senders.iter().map(|s| s.segment(n)));
     }
     frames.extend(senders.iter().map(Sender::status));
@@ -273,7 +310,7 @@ pub fn noise(count: usize, seed: u64) -> Vec<Frame> {
                 3 => stream[dice.roll(stream.len())],
                 4 => Sending::nth(dice.roll(4) as u8).nth_reply(dice.roll(4)),
                 _ => {
-                    next[n] = next[n] % SEGMENTS + 1;
+                    next[n] = next[n] % s.segments() + 1;
                     s.segment(next[n])
                 }
             };

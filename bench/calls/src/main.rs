@@ -10,7 +10,7 @@ mod frames;
 mod ours;
 mod sending;
 
-use frames::{Frame, Sender, Sending, LIMIT, OWN};
+use frames::{Frame, Sender, Sending, LIMITS, OWN};
 use ours::{Ours, STORE_BYTES};
 use plain::receiver::{Answer, Receiver};
 use std::hint::black_box;
@@ -44,7 +44,7 @@ fn consume(result: Result<usize, plain::Refusal>) {
 }
 
 fn ours_frames(open: &[Sender], frames: &[Frame]) -> Side {
-    let mut ours = Ours::open(OWN, LIMIT, 7);
+    let mut ours = Ours::open(OWN, LIMITS, 7);
     for s in open {
         let frame = s.announcement();
         assert_eq!(ours.frame(frame.id, frame.bytes()), 0);
@@ -61,7 +61,7 @@ fn ours_frames(open: &[Sender], frames: &[Frame]) -> Side {
 }
 
 fn opened<const CHECKED: bool>(open: &[Sender], store: &mut [u8]) -> Receiver<CHECKED> {
-    let mut receiver = Receiver::open(OWN, LIMIT, 7);
+    let mut receiver = Receiver::open(OWN, LIMITS, 7);
     for s in open {
         let frame = s.announcement();
         let answer = receiver.frame(frame.id, frame.bytes(), store);
@@ -139,7 +139,7 @@ mod with_groups {
     }
 
     fn ours_stream(open: &[Sender], frames: &[Frame]) -> Side {
-        let mut ours = Ours::open(OWN, LIMIT, 7);
+        let mut ours = Ours::open(OWN, LIMITS, 7);
         for s in open {
             let frame = s.announcement();
             assert_eq!(ours.frame(frame.id, frame.bytes()), 0);
@@ -266,11 +266,29 @@ fn equal() {
         equal::compare_pack("requests", &requests);
         assert!(frames::packed(&requests).len() == 16);
     }
+    for limits in equal::waits::DRAWN {
+        equal::waits::compare::<true>(100_000, 6, limits);
+        let (met, seen) = equal::waits::compare::<false>(100_000, 6, limits);
+        eprintln!(
+            "limits {} and {}: calls equal; numbers {}; readings: {met}",
+            limits.first,
+            limits.second,
+            counts(&seen)
+        );
+    }
+    equal::waits::compare_bounds();
     equal::sending::compare_send::<true>(&Sending::nth(0));
     equal::sending::compare_send::<false>(&Sending::nth(0));
-    equal::sending::compare_calls::<true>(200_000, 6);
-    let seen = equal::sending::compare_calls::<false>(200_000, 6);
-    eprintln!("sender and node: calls equal; numbers {}", counts(&seen));
+    for limits in equal::waits::DRAWN {
+        equal::sending::compare_calls::<true>(100_000, 6, limits);
+        let seen = equal::sending::compare_calls::<false>(100_000, 6, limits);
+        eprintln!(
+            "sender and node, limits {} and {}: calls equal; numbers {}",
+            limits.first,
+            limits.second,
+            counts(&seen)
+        );
+    }
 }
 
 fn sample(side: &mut Side, repeat: usize) -> u128 {

@@ -1,10 +1,12 @@
 //! Our side: the buffers that a program in C would hold, and the calls on them (tests/rust/boundary).
 
+use plain::receiver::Limits;
 use plain::{FRAME_BYTES, SLOTS, SLOT_BYTES};
 
-pub const RECORD_BYTES: usize = 249;
+pub const RECORD_BYTES: usize = 261;
 pub const STORE_BYTES: usize = SLOTS * SLOT_BYTES;
 pub const ANSWER_BYTES: usize = 36;
+pub const ANSWERS_BYTES: usize = SLOTS * ANSWER_BYTES;
 pub const GROUPS_WORDS: usize = 48;
 pub const SENDER_BYTES: usize = 113;
 pub const TRANSFER_ANSWERS_BYTES: usize = 4 * ANSWER_BYTES;
@@ -16,13 +18,13 @@ pub struct Ours {
 }
 
 impl Ours {
-    pub fn open(own: u8, limit: u32, reading: u32) -> Self {
+    pub fn open(own: u8, limits: Limits, reading: u32) -> Self {
         let mut ours = Ours {
             record: [0; RECORD_BYTES],
             store: vec![0; STORE_BYTES],
             answer: [0; ANSWER_BYTES],
         };
-        assert_eq!(boundary::open(&mut ours.record, own, limit, reading), 0);
+        assert_eq!(boundary::open(&mut ours.record, own, limits.first, limits.second, reading), 0);
         ours
     }
 
@@ -72,9 +74,10 @@ pub struct OurNode {
 }
 
 impl OurNode {
-    pub fn open(own: u8, limit: u32, reading: u32) -> Self {
+    /// `limits` are the receiver's, `limit` is the sender's.
+    pub fn open(own: u8, limits: Limits, limit: u32, reading: u32) -> Self {
         OurNode {
-            receiver: Ours::open(own, limit, reading),
+            receiver: Ours::open(own, limits, reading),
             sender: OurSender::open(own, limit, reading),
         }
     }

@@ -1,6 +1,6 @@
 //! Cases of the sender, and of a node that has both ends.
 
-use crate::frames::{Frame, Sending, LIMIT, OWN};
+use crate::frames::{Frame, Sending, LIMIT, LIMITS, OWN};
 use crate::ours::{OurNode, OurSender, STORE_BYTES};
 use crate::{Case, Side};
 use plain::node::Node;
@@ -101,7 +101,7 @@ pub fn send_case(name: &'static str, sending: Sending) -> Case {
 }
 
 fn ours_node(open: &[Sending], frames: &[Frame]) -> Side {
-    let mut ours = OurNode::open(OWN, LIMIT, 7);
+    let mut ours = OurNode::open(OWN, LIMITS, LIMIT, 7);
     for s in open {
         assert_eq!(ours.sender.announce(s.da, s.number, s.pgn, &s.message()), 0);
     }
@@ -118,7 +118,7 @@ fn ours_node(open: &[Sending], frames: &[Frame]) -> Side {
 
 fn plain_node<const CHECKED: bool>(open: &[Sending], frames: &[Frame]) -> Side {
     let mut store = vec![0; STORE_BYTES];
-    let mut node = Node::<CHECKED>::open(OWN, LIMIT, 7);
+    let mut node = Node::<CHECKED>::open(OWN, LIMITS, LIMIT, 7);
     for s in open {
         let answer = node.sender.announce(s.da, s.number, s.pgn, &s.message(), &mut [0; FRAME_BYTES]);
         assert!(matches!(answer, Answer::Announced(_)));

@@ -1,6 +1,6 @@
 //! A node that receives and sends at one address.
 
-use crate::receiver::{self, Receiver};
+use crate::receiver::{self, Limits, Receiver};
 use crate::sender::{self, Sender};
 use crate::transport::is_reply;
 
@@ -16,9 +16,10 @@ pub enum Answer<'a> {
 }
 
 impl<const CHECKED: bool> Node<CHECKED> {
-    pub fn open(own: u8, limit: u32, reading: u32) -> Self {
+    /// `limits` are the receiver's, `limit` is the sender's.
+    pub fn open(own: u8, limits: Limits, limit: u32, reading: u32) -> Self {
         Node {
-            receiver: Receiver::open(own, limit, reading),
+            receiver: Receiver::open(own, limits, reading),
             sender: Sender::open(own, limit, reading),
         }
     }

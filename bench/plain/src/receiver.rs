@@ -1,11 +1,38 @@
 //! The receiver: a typed record behind `&mut self`, eight slots over a lent store.
 
-use crate::transport::{control_frame, is_pgn, is_responders, number24, put24, wire_reason, ControlBytes, Key, Sent, SEGMENT_BYTES};
+use crate::transport::{
+    control_frame, is_limit, is_pgn, is_responders, number24, put24, wire_reason, ControlBytes, Key, Sent, SEGMENT_BYTES,
+};
 use crate::{is_can_fd_length, Groups, Refusal, SLOTS, SLOT_BYTES};
 
 pub const GRANT: u32 = 16;
 
 pub(crate) type Store = [u8; SLOTS * SLOT_BYTES];
+
+/// What a session has been silent since (02, E4).
+#[derive(Clone, Copy, PartialEq, Eq)]
+pub enum Wait {
+    /// A CTS.
+    First,
+    /// A segment that brought none, or the announcement of a BAM.
+    Second,
+}
+
+/// How long a session may be silent in each wait, in milliseconds.
+#[derive(Clone, Copy)]
+pub struct Limits {
+    pub first: u32,
+    pub second: u32,
+}
+
+impl Limits {
+    fn of(&self, wait: Wait) -> u32 {
+        match wait {
+            Wait::First => self.first,
+            Wait::Second => self.second,
+        }
+    }
+}
 
 #[derive(Clone, Copy)]
 pub struct Session {
@@ -18,6 +45,7 @@ pub struct Session {
     pub next: u32,
     pub granted: u32,
     pub mark: u32,
+    pub wait: Wait,
 }
 
 pub enum Answer<'a> {
@@ -92,11 +120,12 @@ fn abort(own: u8, key: Key, pgn: u32, refusal: Refusal) -> Sent {
     sent
 }
 
-/// The next CTS: from the next segment on, the smallest of MAX SGMTS, 16 and the segments left.
+/// The next CTS: from the next segment on, the smallest of MAX SGMTS, 16 and the segments left. The first wait begins with it.
 fn grant<'a>(own: u8, s: &mut Session) -> Answer<'a> {
     let left = s.segments + 1 - s.next;
     let count = u32::from(s.max).min(GRANT).min(left);
     s.granted = s.next + count - 1;
+    s.wait = Wait::First;
     Answer::Grant {
         key: s.key,
         pgn: s.pgn,
@@ -109,16 +138,16 @@ fn grant<'a>(own: u8, s: &mut Session) -> Answer<'a> {
 /// `CHECKED` says whether each call checks the whole record, as 01 asks of every receiver (refusal 23), or trusts it.
 pub struct Receiver<const CHECKED: bool> {
     own: u8,
-    limit: u32,
+    limits: Limits,
     last: u32,
     slots: [Option<Session>; SLOTS],
 }
 
 impl<const CHECKED: bool> Receiver<CHECKED> {
-    pub fn open(own: u8, limit: u32, reading: u32) -> Self {
+    pub fn open(own: u8, limits: Limits, reading: u32) -> Self {
         Receiver {
             own,
-            limit,
+            limits,
             last: reading,
             slots: [None; SLOTS],
         }
@@ -126,6 +155,11 @@ impl<const CHECKED: bool> Receiver<CHECKED> {
 
     pub fn slots(&self) -> &[Option<Session>; SLOTS] {
         &self.slots
+    }
+
+    /// For a test that puts a session out of bounds.
+    pub fn slots_mut(&mut self) -> &mut [Option<Session>; SLOTS] {
+        &mut self.slots
     }
 
     /// 01, "State in bounds", of one open slot but for its key being the only one.
@@ -141,12 +175,13 @@ impl<const CHECKED: bool> Receiver<CHECKED> {
             && s.key.da() == da
             && s.key.number() < 16
             && s.next.wrapping_sub(1) <= s.segments
+            && (!s.is_bam || s.wait == Wait::Second)
             && (s.is_bam || s.max != 0 && granted)
     }
 
     #[inline(always)]
     pub(crate) fn in_bounds(&self) -> bool {
-        if self.own > 253 || self.limit.wrapping_sub(1) >= 60_000 {
+        if self.own > 253 || !is_limit(self.limits.first) || !is_limit(self.limits.second) {
             return false;
         }
         let mut keys = [Key::new(0, 0, 0); SLOTS];
@@ -250,6 +285,7 @@ impl<const CHECKED: bool> Receiver<CHECKED> {
             next: 1,
             granted: 0,
             mark: self.last,
+            wait: Wait::Second,
         };
         match self.slot_for(&s, bytes[8]) {
             Err(refusal) if is_bam => Answer::Refused(refusal),
@@ -316,6 +352,7 @@ impl<const CHECKED: bool> Receiver<CHECKED> {
         if !s.is_bam && segment == s.granted && segment < s.segments {
             return grant(self.own, s);
         }
+        s.wait = Wait::Second;
         Answer::Taken { key: s.key, segment }
     }
 
@@ -355,17 +392,18 @@ impl<const CHECKED: bool> Receiver<CHECKED> {
             _ => Answer::Refused(16),
         }
     }
-}
 
-/// Only the trace program takes readings, and its receiver trusts its record.
-impl Receiver<false> {
-    /// Takes a reading of the clock, with an answer for each session that was silent too long.
-    pub fn reading(&mut self, now: u32, mut each: impl FnMut(Answer)) {
+    /// Takes a reading of the clock, with an answer, and its slot, for each session that was silent too long.
+    pub fn reading(&mut self, now: u32, mut each: impl FnMut(usize, Answer)) -> Result<(), Refusal> {
+        if CHECKED && !self.in_bounds() {
+            return Err(23);
+        }
         for slot in 0..SLOTS {
-            if matches!(&self.slots[slot], Some(s) if now.wrapping_sub(s.mark) >= self.limit) {
-                each(self.fail(slot, 22));
+            if matches!(&self.slots[slot], Some(s) if now.wrapping_sub(s.mark) >= self.limits.of(s.wait)) {
+                each(slot, self.fail(slot, 22));
             }
         }
         self.last = now;
+        Ok(())
     }
 }

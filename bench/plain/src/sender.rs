@@ -2,8 +2,8 @@
 //! message is kept.
 
 use crate::transport::{
-    control_frame, identifier, is_pgn, is_responders, number24, put24, segments_of, wire_reason, ControlBytes, Key, Sent, CONTROL, DATA,
-    GLOBAL, SEGMENT_BYTES,
+    control_frame, identifier, is_limit, is_pgn, is_responders, number24, put24, segments_of, wire_reason, ControlBytes, Key, Sent,
+    CONTROL, DATA, GLOBAL, SEGMENT_BYTES,
 };
 use crate::{is_can_fd_length, least_length, Refusal, FRAME_BYTES, SLOT_BYTES};
 
@@ -160,7 +160,7 @@ impl<const CHECKED: bool> Sender<CHECKED> {
 
     #[inline(always)]
     pub(crate) fn in_bounds(&self) -> bool {
-        if self.own > 253 || self.limit.wrapping_sub(1) >= 60_000 {
+        if self.own > 253 || !is_limit(self.limit) {
             return false;
         }
         let mut keys = [Key::new(0, 0, 0); TRANSFERS];

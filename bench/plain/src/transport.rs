@@ -49,6 +49,11 @@ pub(crate) fn is_pgn(pgn: u32) -> bool {
     pgn >> 18 == 0 && !low_byte_is_wrong(pgn)
 }
 
+/// An idle limit of either end.
+pub(crate) fn is_limit(limit: u32) -> bool {
+    limit.wrapping_sub(1) < 60_000
+}
+
 /// Of a message that is not too long.
 pub(crate) fn segments_of(total: u32) -> u32 {
     (total + SEGMENT_BYTES - 1) / SEGMENT_BYTES

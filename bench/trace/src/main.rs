@@ -7,7 +7,7 @@
 mod lines;
 mod records;
 
-use plain::receiver::Receiver;
+use plain::receiver::{Limits, Receiver};
 use plain::{SLOTS, SLOT_BYTES};
 use records::{Next, Records};
 use std::io::{self, Write};
@@ -17,8 +17,12 @@ const FULL: usize = 1 << 16;
 fn main() -> io::Result<()> {
     let sent_only = std::env::args().any(|a| a == "--sent");
     let mut records = Records::new(io::stdin().lock());
+    let limits = Limits {
+        first: 1250,
+        second: 1250,
+    };
     // It trusts its record.
-    let mut receiver = Receiver::<false>::open(33, 1250, 0);
+    let mut receiver = Receiver::<false>::open(33, limits, 0);
     let mut store = vec![0; SLOTS * SLOT_BYTES];
     let mut out = Vec::with_capacity(2 * FULL);
     let mut stdout = io::stdout().lock();
@@ -26,13 +30,14 @@ fn main() -> io::Result<()> {
     loop {
         match records.next()? {
             Next::Reading(now) => {
-                receiver.reading(now, |ended| {
+                let read = receiver.reading(now, |_, ended| {
                     if sent_only {
                         lines::sent(&mut out, count, ended.sent());
                     } else {
                         lines::session(&mut out, &ended);
                     }
                 });
+                read.expect("a trusted record");
             }
             Next::Frame(id, bytes) => {
                 let answer = receiver.frame(id, bytes, &mut store);

@@ -6,9 +6,10 @@ use mathlib.Core.Path.{_≡_, refl}
 use mathlib.Core.Bool.{Bool, true, false, cond, not, _&&_}
 use mathlib.Core.List.{List, [], _∷_, map}
 use mathlib.Mathlib.Data.Bool.Basic.{and-elim-left, and-elim-right}
-use lib.Dec.{eqb, leb, ltb}
+use lib.Dec.{eqb, ltb}
 use lib.ListN.{length, getD, set, replicate}
-use borrow.Author.Tests.{ltb-true, leb-true}
+use borrow.Author.Tests.{ltb-true}
+use Rattle.progress.specs.declared.wait.IdleLimits.{IdleLimits}
 use Rattle.laws.specs.Choice.{each-of}
 use Rattle.frame.specs.declared.Address.{Address}
 use Rattle.frame.specs.declared.refusal.Refusal.{Refusal}
@@ -42,8 +43,7 @@ use Rattle.session.specs.declared.State.the-variants.{Closed, Open}
 use Rattle.session.specs.declared.Change.{Change}
 use Rattle.session.specs.declared.Change.the-variants.{Stays, Opens, Moves, Ends}
 use Rattle.session.specs.declared.Step.{Step}
-use Rattle.session.specs.Ends.{isIdle}
-use Rattle.session.specs.Decisions.{announcedTo, segmentTo, statusTo, abortTo, after, endingOf}
+use Rattle.session.specs.Decisions.{announcedTo, segmentTo, statusTo, abortTo, after, endingOf, isSilent}
 use Rattle.session.specs.Bounds.{stateOk}
 use Rattle.session.specs.InBounds.{Sound, sound-of}
 use Rattle.session.specs.Fits.{StateSmall, ChangeFits, AnswerFits, StepFits, announce-fits, segment-fits, status-fits, abort-fits}
@@ -51,13 +51,14 @@ use Rattle.slots.specs.declared.Slot.{Slot}
 use Rattle.slots.specs.declared.Found.{Found}
 use Rattle.slots.specs.declared.Found.the-variants.{At, Nothing}
 use Rattle.slots.specs.Slots.{Within, slotFor, stateIn, isAt, freeSlot}
-use Rattle.slots.specs.Bounds.{openingOk, slotOk, twinOf, slotsOk}
+use Rattle.slots.specs.Bounds.{valuesOk, slotOk, twinOf, slotsOk}
 use Rattle.receiver.specs.declared.Receiver.{Receiver}
 use Rattle.receiver.specs.Bounds.{inBounds}
 use Rattle.receiver.specs.Calls.{Outcome, Stepped, Elapsed, refused, withSlot, applied, apply, slotOf, announceStep, statusStep, abortStep, onControl, controlStep, segmentStep, onData, isReady, groupsStep, onVerdict, frameAll, afterEnd, expired, stays, readingKept, readingStep}
 use Rattle.record_bytes.specs.Kept.{Bytes}
 use Rattle.record_bytes.specs.RoundTrip.{SessionFits, StateFits, SlotsFit, RecordFits}
 use Rattle.dwaebinam.specs.Handed.{for-within}
+use Rattle.isolation.proofs.Opening.{allowed}
 use Rattle.carried.specs.Fitting.{StateNarrow, SlotsNarrow, Narrow}
 
 -- ---- what fits
@@ -84,13 +85,16 @@ slots-fit own (s ∷ ss) e (h, hs) =
 pub record-fits : (r : Receiver) → inBounds r ≡ true → length (r .slots) ≡ 8 → Narrow r → RecordFits r
 unfolding inBounds
 record-fits r e eight h =
-    let o = and-elim-left (openingOk (r .own) (r .limit)) (slotsOk (r .own) (r .slots)) e in
-    let l : r .limit ≤ 60000 = leb-true (r .limit) 60000 (and-elim-right (leb (r .own .0) 253 && leb 1 (r .limit)) (leb (r .limit) 60000) o) in
+    let o = and-elim-left (valuesOk (r .own) (r .limits)) (slotsOk (r .own) (r .slots)) e in
+    let a = allowed (r .own) (r .limits) o in
+    let f : r .limits .first ≤ 60000 = a .first-high in
+    let s : r .limits .second ≤ 60000 = a .second-high in
     record {
-      limit = omega arith;
+      first = omega arith;
+      second = omega arith;
       last = h .last;
       eight = eight;
-      slots = slots-fit (r .own) (r .slots) (and-elim-right (openingOk (r .own) (r .limit)) (slotsOk (r .own) (r .slots)) e) (h .slots);
+      slots = slots-fit (r .own) (r .slots) (and-elim-right (valuesOk (r .own) (r .limits)) (slotsOk (r .own) (r .slots)) e) (h .slots);
     }
 
 -- ---- slots
@@ -105,17 +109,17 @@ fits-at [] i h = tt
 fits-at (x ∷ l) zero (h, hs) = h
 fits-at (x ∷ l) (suc i) (h, hs) = fits-at l i hs
 
-narrow-expired : (limit t : ℕ) (l : List Slot) → SlotsNarrow l → SlotsNarrow (map (expired limit t) l)
-narrow-expired limit t [] h = tt
-narrow-expired limit t (x ∷ l) (h, hs) = (go (x .state) h, narrow-expired limit t l hs)
+narrow-expired : (limits : IdleLimits) (t : ℕ) (l : List Slot) → SlotsNarrow l → SlotsNarrow (map (expired limits t) l)
+narrow-expired limits t [] h = tt
+narrow-expired limits t (x ∷ l) (h, hs) = (go (x .state) h, narrow-expired limits t l hs)
   where
     by : (s : Session) → StateNarrow (Open s) → (b : Bool) → StateNarrow (afterEnd (cond b (end.Ended (endingOf s Silence)) end.Stays) (Open s))
     by s h true = tt
     by s h false = h
 
-    go : (st : State) → StateNarrow st → StateNarrow (expired limit t (record { state = st }) .state)
+    go : (st : State) → StateNarrow st → StateNarrow (expired limits t (record { state = st }) .state)
     go Closed h = tt
-    go (Open s) h = by s h (isIdle limit (s .progress .mark) t)
+    go (Open s) h = by s h (isSilent limits t s)
 
 -- ---- a step applied to its slot
 
@@ -241,5 +245,5 @@ module _ (r : Receiver) (h : Narrow r) (f : RecordFits r) where
     where
       go : (b : Bool) → let x : Elapsed = cond b (readingKept r t) (record { next = r; answer = acceptance.Refused OutOfBounds; ends = replicate 8 stays }) in
           Narrow (x .next)
-      go true = record { last = e; slots = narrow-expired (r .limit) t (r .slots) (h .slots) }
+      go true = record { last = e; slots = narrow-expired (r .limits) t (r .slots) (h .slots) }
       go false = h

@@ -153,7 +153,7 @@ frame-sends r id d m eight = go (isReady r m) refl
     read e (some b) body t =
         let sim : Sim (valuesOf r) r m (standsFor r m) = bounds-sim r m (and-elim-right (eqb (length m) 32768) (inBounds r) e) eight
         (eqb-true (length m) 32768 (and-elim-left (eqb (length m) 32768) (inBounds r) e)) in
-        let fit = body-fit (valuesOf r) r m (standsFor r m) sim (frameKey id d) (frame-mine (valuesOf r) id d b (own-small (r .own) (r .limit) (sim .good)) body) b d (t .1) in
+        let fit = body-fit (valuesOf r) r m (standsFor r m) sim (frameKey id d) (frame-mine (valuesOf r) id d b (own-small (r .own) (r .limits) (sim .good)) body) b d (t .1) in
         subst (λ (z : Outcome). WireFits (wireOf (answerSends (z .0 .answer)))) (sym (t .0))
         (subst WireFits (sym (sends-of (bodyStep r (keyAt (frameKey id d)) b d m) _ (fit .reply))) (rule-fits (frameKey id d) (frame-key-low id d) (valuesOf r) (r .last) _ _ b))
 

@@ -6,6 +6,7 @@ use mathlib.Core.Bool.{Bool, true, false, cond}
 use mathlib.Core.List.{List, [], _∷_}
 use native.Mathlib.Omega.{arith}
 use lib.Dec.{eqb}
+use Rattle.progress.specs.declared.wait.Wait.the-variants.{First}
 use Rattle.laws.specs.Bools.{by-test}
 use Rattle.transport.specs.declared.Kind.{Kind}
 use Rattle.transport.specs.declared.Kind.the-variants.{Rts, Bam}
@@ -13,7 +14,7 @@ use Rattle.transfer.specs.declared.State.{State}
 use Rattle.isolation.specs.Replies.{Wire, Says}
 use Rattle.delivery.specs.Link.{Setting, Link, Move, framesDue, step, run, start}
 use Rattle.delivery.specs.Arrival.{Fair, CalmAt, Calm, works, measure, AtRest, whole, Arrives}
-use Rattle.delivery.proofs.Expected.{count, Goes, kind-is, handedBy}
+use Rattle.delivery.proofs.Expected.{count, Goes, kind-is, handedBy, from}
 use Rattle.delivery.proofs.Sending.{transferAt, firstGrant, Gives, announced-at, gives-segment, gives-eoms, none-given}
 use Rattle.delivery.proofs.Stages.{flight, Stage, announcing, granting, moving, acknowledging, done, Marks, shapeAt, linkAt, Stands, Reached, measure-at}
 use Rattle.delivery.proofs.Steps.{Step, moves}
@@ -106,7 +107,7 @@ starts-at κ s fair goes p q = record {
   goes = goes;
   stage = announcing 0 false;
   stands = record { within = omega arith; bound = bound κ; complete = λ e. cc };
-  marks = record { sendersMark = p; sendersLast = p; receiversMark = q; receiversLast = q };
+  marks = record { sendersMark = p; sendersLast = p; receiversMark = from q First; receiversLast = q };
   same = rw (announced-at κ s fair goes p);
 }
   where

@@ -6,6 +6,7 @@ use mathlib.Core.Path.{_≡_, refl}
 use mathlib.Core.Bool.{true}
 use mathlib.Core.List.{List, [], _∷_}
 use lib.ListN.{replicate, length-replicate}
+use Rattle.progress.specs.declared.wait.IdleLimits.{IdleLimits}
 use Rattle.frame.specs.Judge.{judged, byFormat}
 use Rattle.frame.specs.Lengths.{frameLength}
 use Rattle.transport.specs.Control.{controlOf}
@@ -41,15 +42,19 @@ ramp : ℕ → List ℕ
 ramp zero = []
 ramp (suc n) = n ∷ ramp n
 
+-- the standard's two limits
+abbrev limits : IdleLimits
+limits = record { first = 1250; second = 750 }
+
 -- 100 bytes from 80 hex, session 3, to 20 hex; PGN FEF1 hex
 abbrev setting : Setting
-setting = record { values = record { own = record { 0 = 32 }; limit = 1250 }; key = 524803; limit = 2500; pgn = 65265; message = ramp 100 }
+setting = record { values = record { own = record { 0 = 32 }; limits = limits }; key = 524803; limit = 2500; pgn = 65265; message = ramp 100 }
 
 abbrev originator : Sender
 originator = record { own = record { 0 = 128 }; limit = 2500; last = 0; transfers = replicate 4 Closed }
 
 abbrev responder : Receiver
-responder = openedWith (record { 0 = 32 }) 1250 0
+responder = openedWith (record { 0 = 32 }) limits 0
 
 abbrev before : System
 before = start setting originator responder (replicate 32768 0)

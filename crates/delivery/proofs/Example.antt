@@ -31,7 +31,7 @@ ramp (suc n) = n ∷ ramp n
 
 -- from 80 hex, session 3, to 20 hex or to all; PGN FEF1 hex
 abbrev setting : ℕ → Setting
-setting k = record { values = record { own = record { 0 = 32 }; limit = 1250 }; key = k; limit = 2500; pgn = 65265; message = ramp 1000 }
+setting k = record { values = record { own = record { 0 = 32 }; limits = record { first = 1250; second = 750 } }; key = k; limit = 2500; pgn = 65265; message = ramp 1000 }
 
 fair-to-one : Fair (setting 524803)
 unfolding ramp

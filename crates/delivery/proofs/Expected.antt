@@ -11,6 +11,8 @@ use lib.Dec.{eqb}
 use lib.ListN.{length, take}
 use lib.Seq.{take-all}
 use borrow.Author.Tests.{eqb-true, eq-eqb, ne-eqb, le-ltb, lt-ltb}
+use Rattle.progress.specs.declared.wait.Wait.{Wait}
+use Rattle.progress.specs.declared.wait.Wait.the-variants.{First, Second}
 use Rattle.transport.specs.declared.Kind.{Kind}
 use Rattle.transport.specs.declared.Kind.the-variants.{Rts, Bam}
 use Rattle.transport.specs.declared.announcement.Announcement.{Announcement}
@@ -50,8 +52,22 @@ announced-is κ s e = rw (kind-is κ (s .key) e)
 
 -- ---- the session with segments 1 to j taken, granted to g
 
-pub sessionAt : Kind → Setting → ℕ → ℕ → ℕ → Open
-sessionAt κ s mark j g = record { told = announcementFor κ s; mark = mark; granted = cond (isRts κ) g 0; pieces = cut (length (s .message)) j (s .message) }
+-- from when its silence counts, and which of the two it is
+pub record Silence : Type 0 where
+  pub mark : ℕ
+  pub wait : Wait
+
+pub sessionAt : Kind → Setting → Silence → ℕ → ℕ → Open
+sessionAt κ s q j g = record {
+  told = announcementFor κ s;
+  mark = q .mark;
+  wait = q .wait;
+  granted = cond (isRts κ) g 0;
+  pieces = cut (length (s .message)) j (s .message);
+}
+
+abbrev pub from : ℕ → Wait → Silence
+from last wait = record { mark = last; wait = wait }
 
 -- ---- the announcement
 
@@ -91,9 +107,9 @@ module _ (s : Setting) (fair : Fair s) where
   abbrev pub Opened : Kind → ℕ → Type 0
   Opened Rts last =
       (c : ℕ) × (1 ≤ c) × (c ≤ count s)
-      × (received s none last (offerWire (offer s)) ≡ (some (sessionAt Rts s last 0 c), cts (s .key) 1 c (s .pgn)))
+      × (received s none last (offerWire (offer s)) ≡ (some (sessionAt Rts s (from last First) 0 c), cts (s .key) 1 c (s .pgn)))
   Opened Bam last =
-      received s none last (offerWire (offer s)) ≡ (some (sessionAt Bam s last 0 (count s)), plain (opened (keyIn s)))
+      received s none last (offerWire (offer s)) ≡ (some (sessionAt Bam s (from last Second) 0 (count s)), plain (opened (keyIn s)))
 
   -- the grants that an RTS session gives
   granted-next : (left : ℕ) → 1 ≤ left → left ≤ count s → (1 ≤ grantOf (count s % 256) left) × (grantOf (count s % 256) left ≤ left)
@@ -113,13 +129,13 @@ next-piece : (m : List ℕ) (j : ℕ) → _≡_ {A = List Piece} (record { numbe
 unfolding cut
 next-piece m j = let z : j + 1 ≡ suc j = omega arith in rw z
 
-module _ (s : Setting) (fair : Fair s) (last mark j g : ℕ) (l : j < count s) where
+module _ (s : Setting) (fair : Fair s) (last : ℕ) (q : Silence) (j g : ℕ) (l : j < count s) where
   -- it is in order and whole, so it is added
-  in-order : (κ : Kind) → received s (some (sessionAt κ s mark j g)) last (segmentWire (keyIn s) (s .message) (j + 1))
-      ≡ adds (s .key) last (sessionAt κ s mark j g) (j + 1) (dataAt (frameOf s fair (j + 1)))
+  in-order : (κ : Kind) → received s (some (sessionAt κ s q j g)) last (segmentWire (keyIn s) (s .message) (j + 1))
+      ≡ adds (s .key) last (sessionAt κ s q j g) (j + 1) (dataAt (frameOf s fair (j + 1)))
   unfolding rule segmentOpen sessionAt announcementFor
   in-order κ =
-      ap (byBody s (some (sessionAt κ s mark j g)) last) (reads-for s _ _ (on-segment s fair (j + 1) (omega arith) (omega arith)))
+      ap (byBody s (some (sessionAt κ s q j g)) last) (reads-for s _ _ (on-segment s fair (j + 1) (omega arith) (omega arith)))
       ∙ rw (
         taken-same (length (s .message)) j (s .message) (j + 1),
         ne-eqb (j + 1) 0 (λ e. omega arith),
@@ -133,12 +149,12 @@ module _ (s : Setting) (fair : Fair s) (last mark j g : ℕ) (l : j < count s) w
   -- an RTS session: as yet no answer, or the grant is used up and the next one goes out
   pub data SegmentTaken : Type 0 where
     quiet : (j + 1 < g) ⊎ (j + 1 ≡ count s)
-        → received s (some (sessionAt Rts s mark j g)) last (segmentWire (keyIn s) (s .message) (j + 1))
-        ≡ (some (sessionAt Rts s last (j + 1) g), plain (took (keyIn s) (j + 1)))
+        → received s (some (sessionAt Rts s q j g)) last (segmentWire (keyIn s) (s .message) (j + 1))
+        ≡ (some (sessionAt Rts s (from last Second) (j + 1) g), plain (took (keyIn s) (j + 1)))
         → SegmentTaken
     grants : j + 1 ≡ g → (c : ℕ) → 1 ≤ c → j + 1 + c ≤ count s
-        → received s (some (sessionAt Rts s mark j g)) last (segmentWire (keyIn s) (s .message) (j + 1))
-        ≡ (some (sessionAt Rts s last (j + 1) (j + 1 + c)), cts (s .key) (j + 1 + 1) c (s .pgn))
+        → received s (some (sessionAt Rts s q j g)) last (segmentWire (keyIn s) (s .message) (j + 1))
+        ≡ (some (sessionAt Rts s (from last First) (j + 1) (j + 1 + c)), cts (s .key) (j + 1 + 1) c (s .pgn))
         → SegmentTaken
 
   piece-here : take (due (length (s .message)) (j + 1)) (dataAt (frameOf s fair (j + 1))) ≡ pieceOf (s .message) (j + 1)
@@ -161,8 +177,8 @@ module _ (s : Setting) (fair : Fair s) (last mark j g : ℕ) (l : j < count s) w
           (in-order Rts
           ∙ rw (eq-eqb (j + 1) g e, lt-ltb (j + 1) (count s) left, piece-here, next-piece (s .message) j, grant-same (count s % 256) (count s - (j + 1))))
 
-  pub on-segment-bam : received s (some (sessionAt Bam s mark j g)) last (segmentWire (keyIn s) (s .message) (j + 1))
-      ≡ (some (sessionAt Bam s last (j + 1) g), plain (took (keyIn s) (j + 1)))
+  pub on-segment-bam : received s (some (sessionAt Bam s q j g)) last (segmentWire (keyIn s) (s .message) (j + 1))
+      ≡ (some (sessionAt Bam s (from last Second) (j + 1) g), plain (took (keyIn s) (j + 1)))
   unfolding sessionAt announcementFor adds spent isRts
   on-segment-bam = in-order Bam ∙ rw (piece-here, next-piece (s .message) j)
 
@@ -185,11 +201,11 @@ unfolding handOver announcementFor isRts sent
 hands-over Rts s = refl
 hands-over Bam s = refl
 
-pub on-eoms : (s : Setting) → Fair s → (κ : Kind) (last mark g : ℕ)
-    → received s (some (sessionAt κ s mark (count s) g)) last (statusWire (offer s)) ≡ (none, record { number = 0; says = handedBy κ s; sends = acknowledged κ s })
+pub on-eoms : (s : Setting) → Fair s → (κ : Kind) (last : ℕ) (q : Silence) (g : ℕ)
+    → received s (some (sessionAt κ s q (count s) g)) last (statusWire (offer s)) ≡ (none, record { number = 0; says = handedBy κ s; sends = acknowledged κ s })
 unfolding rule statusOpen asAnnounced sessionAt announcementFor
-on-eoms s fair κ last mark g =
-    ap (byBody s (some (sessionAt κ s mark (count s) g)) last) (reads-for s _ _ (on-status s fair))
+on-eoms s fair κ last q g =
+    ap (byBody s (some (sessionAt κ s q (count s) g)) last) (reads-for s _ _ (on-status s fair))
     ∙ rw (
       length-cut (length (s .message)) (count s) (s .message),
       eq-eqb (count s) (count s) refl,

@@ -21,7 +21,7 @@ use Rattle.transfer.specs.Transfers.{announcementOf}
 use Rattle.delivery.specs.Link.{Setting, keyIn, Link, offer}
 use Rattle.delivery.specs.Arrival.{Fair}
 use Rattle.delivery.proofs.Wires.{few-segments, Reads, on-offer, on-status, on-segment, ctsWire, eomaWire, cts-read, eoma-read, response-judged}
-use Rattle.delivery.proofs.Expected.{count, Goes}
+use Rattle.delivery.proofs.Expected.{count, Goes, Silence}
 use Rattle.delivery.proofs.Stages.{flight, Stage, announcing, granting, moving, acknowledging, done, shapeAt, Stands, Reached}
 
 first : {A : Type 0} {a b : A} {l m : List A} → a ∷ l ≡ b ∷ m → a ≡ b
@@ -39,7 +39,7 @@ module _ (s : Setting) (fair : Fair s) (f : Wire) (rest : List Wire) where
   is-read : (b : Body) (g : Wire) → Reads s g b → g ≡ f → Read
   is-read b g h e = (b, subst (λ (y : Wire). Reads s y b) e h)
 
-  at-stage : (κ : Kind) (stage : Stage) → Stands κ s stage → (a b : ℕ) → shapeAt κ s a b stage .forward ≡ f ∷ rest → Read
+  at-stage : (κ : Kind) (stage : Stage) → Stands κ s stage → (a : ℕ) (b : Silence) → shapeAt κ s a b stage .forward ≡ f ∷ rest → Read
   unfolding shapeAt flight
   at-stage κ (announcing n e) st a b h = is-read _ _ (on-offer s fair) (first h)
   at-stage κ (granting j c) st a b h = absurd (empty h)
@@ -91,7 +91,7 @@ module _ (s : Setting) (fair : Fair s) where
     is-response : (r : Response) (g : Wire) → Responds s g r → g ≡ f → Answered
     is-response r g h e = (r, subst (λ (y : Wire). Responds s y r) e h)
 
-    back-stage : (κ : Kind) → Goes κ (s .key) → (stage : Stage) → Stands κ s stage → (a b : ℕ) → shapeAt κ s a b stage .backward ≡ f ∷ rest → Answered
+    back-stage : (κ : Kind) → Goes κ (s .key) → (stage : Stage) → Stands κ s stage → (a : ℕ) (b : Silence) → shapeAt κ s a b stage .backward ≡ f ∷ rest → Answered
     unfolding shapeAt
     back-stage κ k (announcing n e) st a b h = absurd (empty h)
     back-stage Rts k (granting j c) (l, u) a b h = is-response _ _ (cts-responds k (j + 1) c (omega arith)) (first h)

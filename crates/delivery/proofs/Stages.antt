@@ -18,7 +18,7 @@ use Rattle.isolation.specs.Rules as rules
 use Rattle.delivery.specs.Link.{Setting, keyIn, Link, offer}
 use Rattle.delivery.specs.Arrival.{unsent, measure}
 use Rattle.delivery.proofs.Wires.{ctsWire, eomaWire}
-use Rattle.delivery.proofs.Expected.{count, Goes, sessionAt, handedBy}
+use Rattle.delivery.proofs.Expected.{count, Goes, Silence, sessionAt, handedBy}
 use Rattle.delivery.proofs.Sending.{transferAt, offered, firstGrant, endedAt, Sent, unsent-at}
 
 -- ---- on their way: segments j + 1 to j + n, then the EOMS if it has gone out
@@ -58,11 +58,11 @@ pub data Stage : Type 0 where
   acknowledging : Stage
   done : Stage
 
--- at each end the mark and the last reading
+-- at each end the mark, at the receiver's with its wait, and the last reading
 pub record Marks : Type 0 where
   pub sendersMark : ℕ
   pub sendersLast : ℕ
-  pub receiversMark : ℕ
+  pub receiversMark : Silence
   pub receiversLast : ℕ
 
 -- the link at a stage, but for the readings; nothing has been refused
@@ -78,7 +78,7 @@ abbrev shape : State → List Wire → List Wire → Option rules.Open → List 
 shape t fs bs x h w = record { transfer = t; forward = fs; backward = bs; session = x; handed = h; well = w }
 
 -- a and b: the marks
-unfoldable pub shapeAt : Kind → Setting → ℕ → ℕ → Stage → Shape
+unfoldable pub shapeAt : Kind → Setting → ℕ → Silence → Stage → Shape
 shapeAt κ s a b (announcing n e) = shape (transferAt κ s a n (firstGrant κ s) e) (offerWire (offer s) ∷ flight s 0 n e) [] none [] (endedAt κ e)
 shapeAt κ s a b (granting j c) = shape (transferAt κ s a j j false) [] (ctsWire s (j + 1) c ∷ []) (some (sessionAt κ s b j (j + c))) [] false
 shapeAt κ s a b (moving j n g e) = shape (transferAt κ s a (j + n) g e) (flight s j n e) [] (some (sessionAt κ s b j g)) [] (endedAt κ e)

@@ -7,13 +7,15 @@ use mathlib.Core.Option.{some}
 use mathlib.Core.List.{[], append-nil}
 use native.Mathlib.Omega.{arith}
 use native.Mathlib.Decide.{ℕ-discrete}
+use Rattle.progress.specs.declared.wait.Wait.{Wait}
+use Rattle.progress.specs.declared.wait.Wait.the-variants.{First, Second}
 use Rattle.transport.specs.declared.Kind.{Kind}
 use Rattle.transport.specs.declared.Kind.the-variants.{Rts, Bam}
 use Rattle.transfer.specs.Sends.{segmentWire}
 use Rattle.isolation.specs.Replies.{took, sent, cts, plain}
 use Rattle.delivery.specs.Link.{Setting, keyIn, Link, Move, ask, takeForward, takeBackward, readSender, readReceiver, asked, received, atReceiver, takenForward, atSender, takenBackward, read, step}
 use Rattle.delivery.specs.Arrival.{Fair, CalmAt, works}
-use Rattle.delivery.proofs.Expected.{count, Goes, sessionAt, some-segments, Opened, on-announcement, SegmentTaken, quiet, grants, on-segment-rts, on-segment-bam, on-eoms}
+use Rattle.delivery.proofs.Expected.{count, Goes, sessionAt, from, some-segments, Opened, on-announcement, SegmentTaken, quiet, grants, on-segment-rts, on-segment-bam, on-eoms}
 use Rattle.delivery.proofs.Sending.{firstGrant, Gives, Sent, Due, next, final, nothing, what-is-due, waits, no-more, ended-gives-none, hears-cts, hears-eoma, broadcast-ended, kept}
 use Rattle.delivery.proofs.Stages.{flight, flight-segment, flight-eoms, Stage, announcing, granting, moving, acknowledging, done, Marks, shapeAt, linkAt, Moving, Stands, height}
 
@@ -35,12 +37,12 @@ becomes stage r st e l = record { stage = stage; stands = st; marks = r; same = 
 abbrev pub Step : Kind → Setting → Move → Stage → Marks → Type 0
 Step κ s v stage r = Moved κ s stage (step s (linkAt κ s stage r) v) (works s (linkAt κ s stage r) v)
 
--- the sender's mark, the receiver's mark is its last reading
+-- the sender's mark, and the receiver's, is its last reading; what the receiver took starts a wait
 abbrev sends : Marks → Marks
 sends r = record { sendersMark = r .sendersLast; sendersLast = r .sendersLast; receiversMark = r .receiversMark; receiversLast = r .receiversLast }
 
-abbrev takes : Marks → Marks
-takes r = record { sendersMark = r .sendersMark; sendersLast = r .sendersLast; receiversMark = r .receiversLast; receiversLast = r .receiversLast }
+abbrev takes : Wait → Marks → Marks
+takes wait r = record { sendersMark = r .sendersMark; sendersLast = r .sendersLast; receiversMark = from (r .receiversLast) wait; receiversLast = r .receiversLast }
 
 -- ---- asking
 
@@ -101,31 +103,31 @@ module _ (s : Setting) (fair : Fair s) (r : Marks) where
   takes-announcement Rts o zero true st = absurd (let w : 0 ≡ count s = st .complete refl in let l : 1 ≤ count s = some-segments s fair in omega arith)
   takes-announcement Rts (c, a, b, o) zero false st =
       let z : 0 + c ≡ c = omega arith in
-      rw o (becomes (granting 0 c) (takes r) (a, rw z b) (rw z) (omega arith))
+      rw o (becomes (granting 0 c) (takes First r) (a, rw z b) (rw z) (omega arith))
   takes-announcement Bam o n e st =
       let z : 0 + n ≡ n = omega arith in
-      rw o (becomes (moving 0 n (count s) e) (takes r) (record { sent = rw z st; unspent = inl (some-segments s fair); grant = refl }) (rw z) (rw z (omega arith)))
+      rw o (becomes (moving 0 n (count s) e) (takes Second r) (record { sent = rw z st; unspent = inl (some-segments s fair); grant = refl }) (rw z) (rw z (omega arith)))
 
   module _ (j g : ℕ) where
     -- a segment that brings no answer
     one-more : (κ : Kind) (n : ℕ) (e : Bool) → Moving κ s j (suc n) g e → (j + 1 < g) ⊎ (j + 1 ≡ count s)
         → received s (some (sessionAt κ s (r .receiversMark) j g)) (r .receiversLast) (segmentWire (keyIn s) (s .message) (j + 1))
-        ≡ (some (sessionAt κ s (r .receiversLast) (j + 1) g), plain (took (keyIn s) (j + 1)))
+        ≡ (some (sessionAt κ s (from (r .receiversLast) Second) (j + 1) g), plain (took (keyIn s) (j + 1)))
         → Step κ s takeForward (moving j (suc n) g e) r
     unfolding step works takenForward atReceiver shapeAt height flight
     one-more κ n e st o d =
         let z : j + suc n ≡ j + 1 + n = omega arith in
-        rw d (becomes (moving (j + 1) n g e) (takes r) (record { sent = rw z at (st .sent); unspent = o; grant = st .grant }) (rw z) (omega arith))
+        rw d (becomes (moving (j + 1) n g e) (takes Second r) (record { sent = rw z at (st .sent); unspent = o; grant = st .grant }) (rw z) (omega arith))
 
     -- a segment that uses the grant up: it was the last on its way
     next-grant : (n : ℕ) (e : Bool) → Moving Rts s j (suc n) g e → j + 1 ≡ g → (c : ℕ) → 1 ≤ c → j + 1 + c ≤ count s
         → received s (some (sessionAt Rts s (r .receiversMark) j g)) (r .receiversLast) (segmentWire (keyIn s) (s .message) (j + 1))
-        ≡ (some (sessionAt Rts s (r .receiversLast) (j + 1) (j + 1 + c)), cts (s .key) (j + 1 + 1) c (s .pgn))
+        ≡ (some (sessionAt Rts s (from (r .receiversLast) First) (j + 1) (j + 1 + c)), cts (s .key) (j + 1 + 1) c (s .pgn))
         → Step Rts s takeForward (moving j (suc n) g e) r
     unfolding step works takenForward atReceiver shapeAt height flight cts sent
     next-grant (suc n) e st a c b l d = absurd (omega (arith, st .sent .within))
     next-grant zero true st a c b l d = absurd (omega (arith, st .sent .complete refl))
-    next-grant zero false st a c b l d = rw d (becomes (granting (j + 1) c) (takes r) (b, l) (rw (← a)) (omega arith))
+    next-grant zero false st a c b l d = rw d (becomes (granting (j + 1) c) (takes First r) (b, l) (rw (← a)) (omega arith))
 
     takes-segment : (κ : Kind) (n : ℕ) (e : Bool) → Moving κ s j (suc n) g e → Step κ s takeForward (moving j (suc n) g e) r
     takes-segment Rts n e st =

@@ -6,7 +6,9 @@ use mathlib.Core.Bool.{Bool, true, false, _&&_}
 use mathlib.Core.Option.{Option, none, some}
 use mathlib.Core.List.{List, [], _∷_}
 use native.Mathlib.Omega.{arith}
-use lib.Dec.{ltb}
+use lib.Dec.{leb, ltb}
+use borrow.Author.Tests.{leb-true}
+use Rattle.laws.specs.Choice.{each-of}
 use lib.ListN.{length}
 use mathlib.Mathlib.Data.Bool.Basic.{and-elim-left, and-elim-right}
 use Rattle.laws.specs.Bools.{clash, either-way}
@@ -152,8 +154,8 @@ module _ (s : Setting) (p : Sender) (r : Receiver) (m : List ℕ) (h : Starts s 
   fair-start =
       let c = and-elim-right (destinationOk (keyIn s) && pgnOk (s .pgn)) (lengthOk (length (s .message))) good-offer in
       let d = and-elim-left (destinationOk (keyIn s) && pgnOk (s .pgn)) (lengthOk (length (s .message))) good-offer in
-      let a : keyIn s .sa .0 ≤ 253 = subst (λ (a : Address). a .0 ≤ 253) (opens .own ∙ h .own) (own-small (q .own) (q .limit) (ready .good)) in
-      let b : s .values .own .0 ≤ 253 = own-small (s .values .own) (s .values .limit) (sim .good) in
+      let a : keyIn s .sa .0 ≤ 253 = subst (λ (a : Address). a .0 ≤ 253) (opens .own ∙ h .own) (leb-true (q .own .0) 253 (each-of (leb (q .own .0) 253 ∷ leb 1 (q .limit) ∷ leb (q .limit) 60000 ∷ []) (ready .good) .0)) in
+      let b : s .values .own .0 ≤ 253 = own-small (s .values .own) (s .values .limits) (sim .good) in
       record {
         some-bytes = length-facts (length (s .message)) c .0;
         few-bytes = length-facts (length (s .message)) c .1;

@@ -4,6 +4,7 @@ use mathlib.Core.Bool.{cond, not}
 use mathlib.Core.List.{List}
 use lib.Dec.{eqb}
 use lib.ListN.{length}
+use Rattle.progress.specs.declared.wait.IdleLimits.{IdleLimits}
 use Rattle.frame.specs.declared.length.Least.{Least}
 use Rattle.frame.specs.declared.length.Least.the-variants.{Length, Nothing}
 use Rattle.frame.specs.declared.Address.{Address}
@@ -17,21 +18,21 @@ use Rattle.answer_bytes.specs.Answers.{answerBytes}
 
 -- the version of the boundary, in include/dwaebinam.h too
 abbrev pub boundaryVersion : ℕ
-boundaryVersion = 2
+boundaryVersion = 3
 
 abbrev pub leastOr : Least → ℕ
 leastOr (Length n) = n
 leastOr Nothing = 255
 
 -- the number of an opening's answer
-abbrev pub openingNumber : Address → ℕ → ℕ → ℕ
-openingNumber own limit reading = acceptanceNumber (opened own limit reading .answer)
+abbrev pub openingNumber : Address → IdleLimits → ℕ → ℕ
+openingNumber own limits reading = acceptanceNumber (opened own limits reading .answer)
 
 -- The record of a refused opening is out of bounds, so every call refuses it. A buffer of another length stays as it was.
-unfoldable pub openedIn : ℕ → ℕ → ℕ → List ℕ → ℕ × List ℕ
-openedIn own limit reading d =
+unfoldable pub openedIn : ℕ → IdleLimits → ℕ → List ℕ → ℕ × List ℕ
+openedIn own limits reading d =
     cond (not (eqb (length d) recordLength)) (23, d)
-    (openingNumber (record { 0 = own }) limit reading, recordBytes (openedWith (record { 0 = own }) limit reading))
+    (openingNumber (record { 0 = own }) limits reading, recordBytes (openedWith (record { 0 = own }) limits reading))
 
 -- what a call in place answers, as number and bytes
 abbrev pub told : InBytes → ℕ × (List ℕ × (List ℕ × List ℕ))

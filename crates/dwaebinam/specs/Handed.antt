@@ -41,7 +41,7 @@ use Rattle.slots.specs.declared.Slot.{Slot}
 use Rattle.slots.specs.declared.Found.{Found}
 use Rattle.slots.specs.declared.Found.the-variants.{At, Nothing}
 use Rattle.slots.specs.Slots.{Within, firstAt, keyPlace, holdsKey, firstFree, isFree, slotFor, stateIn, isAt, orElse}
-use Rattle.slots.specs.Bounds.{openingOk, slotsOk}
+use Rattle.slots.specs.Bounds.{valuesOk, slotsOk}
 use Rattle.slots.specs.Facts.{session-of}
 use Rattle.receiver.specs.declared.Receiver.{Receiver}
 use Rattle.receiver.specs.Bounds.{inBounds}
@@ -166,7 +166,7 @@ module _ (r : Receiver) (id : ℕ) (d m : List ℕ) (eight : length (r .slots) �
       by : (t : Bool) → isReady r m ≡ t → let o : Outcome = cond t (onVerdict (judged (r .own) id (length d)) r d m) (refused r OutOfBounds, m) in LiesIn m (o .1) (o .0 .answer)
       by true h =
           let ready = each-of (eqb (length m) 32768 ∷ inBounds r ∷ []) h in
-          verdict-fine m (eqb-true _ _ (ready .0)) r eight (each-of (openingOk (r .own) (r .limit) ∷ slotsOk (r .own) (r .slots) ∷ []) (ready .1 .0) .1 .0) (judged (r .own) id (length d)) d
+          verdict-fine m (eqb-true _ _ (ready .0)) r eight (each-of (valuesOk (r .own) (r .limits) ∷ slotsOk (r .own) (r .slots) ∷ []) (ready .1 .0) .1 .0) (judged (r .own) id (length d)) d
       by false h = tt
 
 module _ (b : List ℕ) (id : ℕ) (d m : List ℕ) where

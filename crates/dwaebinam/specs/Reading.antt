@@ -53,11 +53,11 @@ pub silence-says : (s : Session) → take 2 (endBytes (end.Ended (endingOf s Sil
 unfolding fieldsBytes
 silence-says s = refl
 
--- the answer of slot i, at its place: by whether its session was silent for the idle limit
+-- the answer of slot i, at its place: by whether its session was silent for the limit of its wait
 pub reading-answer : (r : Receiver) (t i : ℕ) → i < length (r .slots)
-    → take answerLength (drop (answerPlace i) (endsBytes (readingKept r t .ends))) ≡ endBytes (endOf (r .limit) t (getD (r .slots) i freeSlot .state))
+    → take answerLength (drop (answerPlace i) (endsBytes (readingKept r t .ends))) ≡ endBytes (endOf (r .limits) t (getD (r .slots) i freeSlot .state))
 reading-answer r t i h =
-    let f : Slot → SlotEnd = slotEnd (r .limit) t in
+    let f : Slot → SlotEnd = slotEnd (r .limits) t in
     let n : length (map f (r .slots)) ≡ length (r .slots) = length-map (r .slots) f in
     end-place (map f (r .slots)) i (f freeSlot) (omega arith)
     ∙ ap (λ (e : SlotEnd). endBytes (e .end)) (List·getD-map f (r .slots) i freeSlot)

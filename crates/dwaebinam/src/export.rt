@@ -10,12 +10,13 @@ use engine::call::take_frame;
 use frame::Address;
 use frame::length::Least;
 use frame::length::least_length;
+use progress::wait::IdleLimits;
 use receiver::Receiver;
 use record_bytes::layout::write_record;
 use record_bytes::places::RECORD_BYTES;
 
 // The version of these calls, of their lengths, places and codes: what include/dwaebinam.h says must be the archive's.
-pub const VERSION: u32 = 2;
+pub const VERSION: u32 = 3;
 
 #[no_mangle]
 pub extern "C" fn dwb_version() -> u32
@@ -35,16 +36,20 @@ pub extern "C" fn dwb_least_length(need: usize) -> usize
     }
 }
 
-// Opens a receiver in a buffer of RECORD_BYTES. An opening that is refused with 23 gives a record that every call refuses; a buffer of
+// Opens a receiver in a buffer of RECORD_BYTES, with its two idle limits. An opening that is refused with 23 gives a record that every call refuses; a buffer of
 // another length stays as it was.
 #[no_mangle]
-pub extern "C" fn dwb_open(buffer: &mut [u8], own: u8, limit: u32, reading: u32) -> u8
-    ensures { λ x. ⌜ (x, now (buffer .exit)) ≡ openedIn own limit reading (now (buffer .entry)) ⌝ }
+pub extern "C" fn dwb_open(buffer: &mut [u8], own: u8, first: u32, second: u32, reading: u32) -> u8
+    ensures { λ x. ⌜ (x, now (buffer .exit)) ≡ openedIn own (record { first = first; second = second }) reading (now (buffer .entry)) ⌝ }
 {
     if buffer.len() != RECORD_BYTES {
         return 23;
     }
-    let opened = Receiver::open(Address(own), limit, reading);
+    let limits = IdleLimits {
+        first: first,
+        second: second,
+    };
+    let opened = Receiver::open(Address(own), limits, reading);
     let receiver = opened.receiver;
     let acceptance = opened.answer;
     write_record(receiver, buffer);

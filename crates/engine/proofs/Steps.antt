@@ -26,7 +26,7 @@ use Rattle.slots.specs.declared.Found.{Found}
 use Rattle.slots.specs.declared.Found.the-variants.{At, Nothing}
 use Rattle.slots.specs.Slots.{keyPlace, firstFree, orElse, stateIn}
 use Rattle.slots.specs.Searches.{lowest-some}
-use Rattle.slots.specs.Bounds.{openingOk, slotsOk}
+use Rattle.slots.specs.Bounds.{valuesOk, slotsOk}
 use Rattle.slots.specs.Facts.{session-of}
 use Rattle.receiver.specs.declared.Receiver.{Receiver}
 use Rattle.receiver.specs.Bounds.{inBounds}
@@ -68,7 +68,7 @@ found-announced : (r : Receiver) (f : Found) (s : Session) → inBounds r ≡ tr
 unfolding inBounds
 found-announced r Nothing s e g = absurd (closed≢open s g)
 found-announced r (At i) s e g =
-    let ok = each-of (openingOk (r .own) (r .limit) ∷ slotsOk (r .own) (r .slots) ∷ []) e .1 .0 in
+    let ok = each-of (valuesOk (r .own) (r .limits) ∷ slotsOk (r .own) (r .slots) ∷ []) e .1 .0 in
     each-of (announcedOk (s .announced) ∷ keyOk (r .own) (s .announced) ∷ progressOk (s .announced) (s .progress) ∷ []) (session-of (r .own) (r .slots) i s ok g) .0
 
 module _ (r : Receiver) (f : Found) (sg : Segment) (last : ℕ) (d : List ℕ) (e : inBounds r ≡ true) (room : 4 + sg .room ≤ length d) where

@@ -5,6 +5,7 @@ use mathlib.Core.List.{List, [], _++_, map}
 use lib.ListN.{length, getD, take, replicate}
 use lib.Seq.{paste}
 use Rattle.frame.specs.declared.refusal.Refusal.the-variants.{OutOfBounds}
+use Rattle.progress.specs.declared.wait.IdleLimits.{IdleLimits}
 use Rattle.slots.specs.Slots.{freeSlot}
 use Rattle.answer.specs.declared.Acceptance.the-variants as acceptance
 use Rattle.answer.specs.declared.SlotEnd.{SlotEnd}
@@ -16,16 +17,16 @@ use Rattle.lent_record.specs.Ready.{readyIn}
 use Rattle.engine.specs.declared.reading.ReadingAnswer.{ReadingAnswer}
 
 -- slot i at a reading: its ending, and the slot put over its piece
-abbrev pub slotElapsed : List ℕ → ℕ → ℕ → ℕ → SlotEnd × List ℕ
-slotElapsed b i limit t = (
-  slotEnd limit t (getD (slotsAt b) i freeSlot),
-  paste b (slotPlace i) (kept (getD (piecesOf b) i []) (expired limit t (getD (slotsAt b) i freeSlot))) slotLength,
+abbrev pub slotElapsed : List ℕ → ℕ → IdleLimits → ℕ → SlotEnd × List ℕ
+slotElapsed b i limits t = (
+  slotEnd limits t (getD (slotsAt b) i freeSlot),
+  paste b (slotPlace i) (kept (getD (piecesOf b) i []) (expired limits t (getD (slotsAt b) i freeSlot))) slotLength,
 )
 
 -- all slots, after the head as it was
-abbrev pub slotsElapsed : List ℕ → ℕ → ℕ → List SlotEnd × List ℕ
-slotsElapsed b limit t =
-    (map (slotEnd limit t) (slotsAt b), take headLength b ++ merged (piecesOf b) (map (expired limit t) (slotsAt b)))
+abbrev pub slotsElapsed : List ℕ → IdleLimits → ℕ → List SlotEnd × List ℕ
+slotsElapsed b limits t =
+    (map (slotEnd limits t) (slotsAt b), take headLength b ++ merged (piecesOf b) (map (expired limits t) (slotsAt b)))
 
 abbrev pub elapsedIn : List ℕ → Elapsed → ReadingAnswer × List ℕ
 elapsedIn b x = (record { answer = x .answer; ends = x .ends }, putIn b (x .next))

@@ -1,5 +1,5 @@
-// A reading of the clock over the record's bytes (01, "Clock"): a session that was silent for the idle limit ends, and only its slot and
-// the last reading are written.
+// A reading of the clock over the record's bytes (01, "Clock"): a session that was silent for the limit of its wait ends, and only its
+// slot and the last reading are written.
 ghost use mathlib.Core.Path.{_≡_};
 ghost use mathlib.Core.List.{[]};
 ghost use Prim.Native.Nat.{_<_};
@@ -16,8 +16,9 @@ use answer::End;
 use answer::SlotEnd;
 use frame::refusal::Refusal;
 use lent_record::ready::is_ready;
+use lent_record::ready::limits_of;
 use lent_record::search::slot_in;
-use record_bytes::places::LIMIT_AT;
+use progress::wait::IdleLimits;
 use record_bytes::put::put_last;
 use record_bytes::put::put_slot;
 use session::Session;
@@ -25,7 +26,6 @@ use session::State;
 use session::clock::at_reading;
 use slots::SLOTS;
 use slots::Slot;
-use words::word_at;
 
 // What a reading answers, and the ending of each slot.
 pub struct ReadingAnswer {
@@ -34,11 +34,11 @@ pub struct ReadingAnswer {
 }
 
 // The session s of slot i at the reading t.
-fn expire_open(buffer: &mut [u8], i: usize, s: Session, limit: u32, t: u32) -> SlotEnd
+fn expire_open(buffer: &mut [u8], i: usize, s: Session, limits: IdleLimits, t: u32) -> SlotEnd
     requires { ⌜ (i < 8) × (length (now buffer) ≡ recordLength) × Good (getD (piecesOf (now buffer)) i []) × (getD (slotsAt (now buffer)) i freeSlot .state ≡ Open s) ⌝ }
-    ensures { λ x. ⌜ (x, now (buffer .exit)) ≡ slotElapsed (now (buffer .entry)) i limit t ⌝ }
+    ensures { λ x. ⌜ (x, now (buffer .exit)) ≡ slotElapsed (now (buffer .entry)) i limits t ⌝ }
 {
-    match at_reading(s, limit, t) {
+    match at_reading(s, limits, t) {
         End::Stays => SlotEnd { end: End::Stays },
         End::Ended(e) => {
             put_slot(
@@ -54,26 +54,26 @@ fn expire_open(buffer: &mut [u8], i: usize, s: Session, limit: u32, t: u32) -> S
 }
 
 // Slot i at the reading t.
-fn expire(buffer: &mut [u8], i: usize, limit: u32, t: u32) -> SlotEnd
+fn expire(buffer: &mut [u8], i: usize, limits: IdleLimits, t: u32) -> SlotEnd
     requires { ⌜ (i < 8) × (length (now buffer) ≡ recordLength) × Good (getD (piecesOf (now buffer)) i []) ⌝ }
-    ensures { λ x. ⌜ (x, now (buffer .exit)) ≡ slotElapsed (now (buffer .entry)) i limit t ⌝ }
+    ensures { λ x. ⌜ (x, now (buffer .exit)) ≡ slotElapsed (now (buffer .entry)) i limits t ⌝ }
 {
     let slot = slot_in(buffer, i);
     let state = slot.state;
     match state {
         State::Closed => SlotEnd { end: End::Stays },
-        State::Open(s) => expire_open(buffer, i, s, limit, t),
+        State::Open(s) => expire_open(buffer, i, s, limits, t),
     }
 }
 
-fn expire_all(buffer: &mut [u8], limit: u32, t: u32) -> [SlotEnd; 8]
+fn expire_all(buffer: &mut [u8], limits: IdleLimits, t: u32) -> [SlotEnd; 8]
     requires { ⌜ (length (now buffer) ≡ recordLength) × Holds (now buffer) ⌝ }
-    ensures { λ x. ⌜ (x, now (buffer .exit)) ≡ slotsElapsed (now (buffer .entry)) limit t ⌝ }
+    ensures { λ x. ⌜ (x, now (buffer .exit)) ≡ slotsElapsed (now (buffer .entry)) limits t ⌝ }
 {
     let mut ends = [SlotEnd { end: End::Stays }; 8];
     let mut i: usize = 0;
     while i < SLOTS {
-        ends[i] = expire(buffer, i, limit, t);
+        ends[i] = expire(buffer, i, limits, t);
         i = i + 1;
     }
     ends
@@ -89,8 +89,8 @@ pub fn take_reading(buffer: &mut [u8], t: u32, store: &[u8]) -> ReadingAnswer
             ends: [SlotEnd { end: End::Stays }; 8],
         };
     }
-    let limit = word_at(buffer, LIMIT_AT);
-    let ends = expire_all(buffer, limit, t);
+    let limits = limits_of(buffer);
+    let ends = expire_all(buffer, limits, t);
     put_last(buffer, t);
     ReadingAnswer {
         answer: Acceptance::Accepted,

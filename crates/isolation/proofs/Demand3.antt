@@ -4,6 +4,7 @@ use mathlib.Core.Path.{_≡_, refl, sym, _∙_}
 use mathlib.Core.Bool.{true}
 use mathlib.Core.List.{List, [], _∷_}
 use lib.ListN.{length, replicate, length-replicate}
+use Rattle.progress.specs.declared.wait.IdleLimits.{IdleLimits}
 use Rattle.frame.specs.declared.Address.{Address}
 use Rattle.receiver.specs.declared.Receiver.{Receiver}
 use Rattle.answer.specs.declared.Acceptance.the-variants.{Accepted}
@@ -28,20 +29,20 @@ key-numbers κ d s = key-of κ (record { da = d; session = s })
 
 -- DEMAND 3. For every opening that is accepted, every store of 32,768 bytes whatever it held, every list of calls and every key, what
 -- the receiver shows for the key is what the rules of that key by itself put out.
-pub demand-3 : (own : Address) (limit first : ℕ) → opened own limit first .answer ≡ Accepted → (m : List ℕ) → length m ≡ 32768 → (k : ℕ) (cs : List Call)
-    → let v : Values = record { own = own; limit = limit } in
-    observed v k (opened own limit first .receiver) m cs ≡ outputs v k (fresh first) (told v (λ j. fresh first) k cs)
+pub demand-3 : (own : Address) (limits : IdleLimits) (first : ℕ) → opened own limits first .answer ≡ Accepted → (m : List ℕ) → length m ≡ 32768 → (k : ℕ) (cs : List Call)
+    → let v : Values = record { own = own; limits = limits } in
+    observed v k (opened own limits first .receiver) m cs ≡ outputs v k (fresh first) (told v (λ j. fresh first) k cs)
 unfolding opened
-demand-3 own limit first g m h k cs = run _ k cs (openedWith own limit first) m (λ j. fresh first) (open-sim own limit first m (accepted-ok own limit first g) h)
+demand-3 own limits first g m h k cs = run _ k cs (openedWith own limits first) m (λ j. fresh first) (open-sim own limits first m (accepted-ok own limits first g) h)
 
 -- Two lists of calls, on receivers opened alike over stores of any content, that are alike in what one key's rules see and are told,
 -- give that key the same answers and the same bytes.
-pub alike : (own : Address) (limit first : ℕ) → opened own limit first .answer ≡ Accepted → (m m′ : List ℕ) → length m ≡ 32768 → length m′ ≡ 32768 → (k : ℕ) (cs cs′ : List Call)
-    → let v : Values = record { own = own; limit = limit } in
+pub alike : (own : Address) (limits : IdleLimits) (first : ℕ) → opened own limits first .answer ≡ Accepted → (m m′ : List ℕ) → length m ≡ 32768 → length m′ ≡ 32768 → (k : ℕ) (cs cs′ : List Call)
+    → let v : Values = record { own = own; limits = limits } in
     told v (λ j. fresh first) k cs ≡ told v (λ j. fresh first) k cs′
-    → observed v k (opened own limit first .receiver) m cs ≡ observed v k (opened own limit first .receiver) m′ cs′
-alike own limit first g m m′ h h′ k cs cs′ e =
-    demand-3 own limit first g m h k cs ∙ rw e (sym (demand-3 own limit first g m′ h′ k cs′))
+    → observed v k (opened own limits first .receiver) m cs ≡ observed v k (opened own limits first .receiver) m′ cs′
+alike own limits first g m m′ h h′ k cs cs′ e =
+    demand-3 own limits first g m h k cs ∙ rw e (sym (demand-3 own limits first g m′ h′ k cs′))
 
 -- The same from any record in bounds, with the rules' states that its slots and their bytes stand for.
 pub from-any-record : (r : Receiver) (m : List ℕ) → inBounds r ≡ true → length (r .slots) ≡ 8 → length m ≡ 32768 → (k : ℕ) (cs : List Call)
@@ -50,21 +51,21 @@ from-any-record r m e eight whole k cs = run (valuesOf r) k cs r m (standsFor r 
 
 -- ---- bounds
 
-eight-slots : (own : Address) (limit first : ℕ) → length (opened own limit first .receiver .slots) ≡ 8
+eight-slots : (own : Address) (limits : IdleLimits) (first : ℕ) → length (opened own limits first .receiver .slots) ≡ 8
 unfolding opened
-eight-slots own limit first = refl
+eight-slots own limits first = refl
 
 -- An accepted opening gives a record in bounds.
-pub opens-in-bounds : (own : Address) (limit first : ℕ) → opened own limit first .answer ≡ Accepted → inBounds (opened own limit first .receiver) ≡ true
+pub opens-in-bounds : (own : Address) (limits : IdleLimits) (first : ℕ) → opened own limits first .answer ≡ Accepted → inBounds (opened own limits first .receiver) ≡ true
 unfolding opened
-opens-in-bounds own limit first g =
-    sim-bounds _ (openedWith own limit first) (replicate 32768 0) (λ j. fresh first) (open-sim own limit first (replicate 32768 0) (accepted-ok own limit first g) (length-replicate {A = ℕ} 32768 0))
+opens-in-bounds own limits first g =
+    sim-bounds _ (openedWith own limits first) (replicate 32768 0) (λ j. fresh first) (open-sim own limits first (replicate 32768 0) (accepted-ok own limits first g) (length-replicate {A = ℕ} 32768 0))
 
 -- Every call on a record in bounds gives a record in bounds with the same opening values, and eight slots again; the store keeps its length.
 pub record Sound (r r′ : Receiver) (m′ : List ℕ) : Type 0 where
   pub bounds : inBounds r′ ≡ true
   pub own : r′ .own ≡ r .own
-  pub limit : r′ .limit ≡ r .limit
+  pub limits : r′ .limits ≡ r .limits
   pub eight : length (r′ .slots) ≡ 8
   pub whole : length m′ ≡ 32768
 
@@ -74,7 +75,7 @@ stays-in-bounds r m e eight whole c =
     record {
       bounds = sim-bounds (valuesOf r) (recordAfter r m c) (storeAfter r m c) (worldAfter (valuesOf r) (standsFor r m) c) s;
       own = s .own;
-      limit = s .limit;
+      limits = s .limits;
       eight = s .eight;
       whole = s .whole;
     }
@@ -82,7 +83,7 @@ stays-in-bounds r m e eight whole c =
 -- So every record that the receiver itself has made is in bounds, and the store keeps its length.
 pub over-in-bounds : (r : Receiver) (m : List ℕ) → inBounds r ≡ true → length (r .slots) ≡ 8 → length m ≡ 32768 → (cs : List Call) → Sound r (recordOver r m cs) (storeOver r m cs)
 unfolding recordOver storeOver
-over-in-bounds r m e eight whole [] = record { bounds = e; own = refl; limit = refl; eight = eight; whole = whole }
+over-in-bounds r m e eight whole [] = record { bounds = e; own = refl; limits = refl; eight = eight; whole = whole }
 over-in-bounds r m e eight whole (c ∷ cs) = next (stays-in-bounds r m e eight whole c) (λ s. over-in-bounds (recordAfter r m c) (storeAfter r m c) (s .bounds) (s .eight) (s .whole) cs)
   where
     next : Sound r (recordAfter r m c) (storeAfter r m c)
@@ -91,19 +92,19 @@ over-in-bounds r m e eight whole (c ∷ cs) = next (stays-in-bounds r m e eight 
     next s f = record {
       bounds = f s .bounds;
       own = f s .own ∙ s .own;
-      limit = f s .limit ∙ s .limit;
+      limits = f s .limits ∙ s .limits;
       eight = f s .eight;
       whole = f s .whole;
     }
 
 -- The receiver never refuses a record of its own with 23: after an accepted opening and any list of calls, a frame or a reading that is
 -- lent the store is answered otherwise.
-pub never-refuses-its-own : (own : Address) (limit first : ℕ) → opened own limit first .answer ≡ Accepted → (m : List ℕ) → length m ≡ 32768 → (cs : List Call)
-    → let r : Receiver = recordOver (opened own limit first .receiver) m cs in
-    let s : List ℕ = storeOver (opened own limit first .receiver) m cs in
+pub never-refuses-its-own : (own : Address) (limits : IdleLimits) (first : ℕ) → opened own limits first .answer ≡ Accepted → (m : List ℕ) → length m ≡ 32768 → (cs : List Call)
+    → let r : Receiver = recordOver (opened own limits first .receiver) m cs in
+    let s : List ℕ = storeOver (opened own limits first .receiver) m cs in
     ((id : ℕ) (d : List ℕ) → answerNumber (frameStep r id d s .answer) ≡ 23 → ⊥) × ((t : ℕ) → readingStep r t s .answer ≡ acceptance.Accepted)
-never-refuses-its-own own limit first g m h cs =
-    let a = over-in-bounds (opened own limit first .receiver) m (opens-in-bounds own limit first g) (eight-slots own limit first) h cs in
-    let r : Receiver = recordOver (opened own limit first .receiver) m cs in
-    let s : List ℕ = storeOver (opened own limit first .receiver) m cs in
+never-refuses-its-own own limits first g m h cs =
+    let a = over-in-bounds (opened own limits first .receiver) m (opens-in-bounds own limits first g) (eight-slots own limits first) h cs in
+    let r : Receiver = recordOver (opened own limits first .receiver) m cs in
+    let s : List ℕ = storeOver (opened own limits first .receiver) m cs in
     ((λ id d. never-23 r id d s (a .bounds) (a .whole)), (λ t. reading-never-23 r t s (a .bounds) (a .whole)))

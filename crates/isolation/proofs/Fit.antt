@@ -47,6 +47,7 @@ recordOf k ρ =
         next = record { 0 = length (ρ .pieces) + 1 };
         granted = record { 0 = ρ .granted };
         mark = ρ .mark;
+        wait = ρ .wait;
       };
     }
 

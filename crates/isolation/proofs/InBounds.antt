@@ -22,7 +22,7 @@ use Rattle.slots.specs.declared.Found.the-variants.{At, Nothing}
 use Rattle.slots.specs.Slots.{keyPlace, onFound}
 use Rattle.session.specs.Bounds.{sessionOk, stateOk}
 use Rattle.session.specs.InBounds.{Sound, sound-of}
-use Rattle.slots.specs.Bounds.{openingOk, slotOk, anyHolds, stateTwin, twinOf, slotsOk}
+use Rattle.slots.specs.Bounds.{valuesOk, slotOk, anyHolds, stateTwin, twinOf, slotsOk}
 use Rattle.receiver.specs.Bounds.{inBounds}
 use Rattle.isolation.specs.OwnFrames.{keyAt}
 use Rattle.isolation.specs.Rules.{Values, Open, Piece}
@@ -98,9 +98,9 @@ true-unique own (x ∷ l) e (suc i) (suc j) k g h = ap suc (true-unique own l (t
 pub sim-bounds : (v : Values) (r : Receiver) (m : List ℕ) (w : World) → Sim v r m w → inBounds r ≡ true
 unfolding inBounds
 sim-bounds v r m w sim =
-    rw (sim .own, sim .limit)
-    (both (openingOk (v .own) (v .limit)) (slotsOk (v .own) (r .slots)) (sim .good)
-    (slots-true (v .own) (own-small (v .own) (v .limit) (sim .good)) (r .slots) (sim .uniq) (sim .ok)))
+    rw (sim .own, sim .limits)
+    (both (valuesOk (v .own) (v .limits)) (slotsOk (v .own) (r .slots)) (sim .good)
+    (slots-true (v .own) (own-small (v .own) (v .limits) (sim .good)) (r .slots) (sim .uniq) (sim .ok)))
 
 -- ---- a world for a record in bounds
 
@@ -128,12 +128,12 @@ pieces-cut i m total segments (suc n) h s u =
 same-record : (s : Session) (k n : ℕ) → s .announced .key ≡ keyAt k → s .progress .next .0 ≡ n
     → s ≡ record {
       announced = record { key = keyAt k; kind = s .announced .kind; total = s .announced .total; segments = s .announced .segments; max = s .announced .max; pgn = s .announced .pgn };
-      progress = record { next = record { 0 = n }; granted = s .progress .granted; mark = s .progress .mark };
+      progress = record { next = record { 0 = n }; granted = s .progress .granted; mark = s .progress .mark; wait = s .progress .wait };
     }
 same-record s k n e f =
     ap₂ (λ (x : Key) (y : ℕ). record {
       announced = record { key = x; kind = s .announced .kind; total = s .announced .total; segments = s .announced .segments; max = s .announced .max; pgn = s .announced .pgn };
-      progress = record { next = record { 0 = y }; granted = s .progress .granted; mark = s .progress .mark };
+      progress = record { next = record { 0 = y }; granted = s .progress .granted; mark = s .progress .mark; wait = s .progress .wait };
     }) e f
 
 explained : (v : Values) (k i : ℕ) (m : List ℕ) (x : State) → stateOk (v .own) x ≡ true → holds k x ≡ true → Ses v k x (part i m) (openOf i m x)
@@ -161,9 +161,9 @@ explained v k i m (is.Open s) e h =
 pub bounds-sim : (r : Receiver) (m : List ℕ) → inBounds r ≡ true → length (r .slots) ≡ 8 → length m ≡ 32768 → Sim (valuesOf r) r m (standsFor r m)
 unfolding inBounds standsFor
 bounds-sim r m e eight whole = record {
-  good = and-left (openingOk (r .own) (r .limit)) (slotsOk (r .own) (r .slots)) e;
+  good = and-left (valuesOk (r .own) (r .limits)) (slotsOk (r .own) (r .slots)) e;
   own = refl;
-  limit = refl;
+  limits = refl;
   eight = eight;
   whole = whole;
   last = λ k. refl;
@@ -174,7 +174,7 @@ bounds-sim r m e eight whole = record {
 }
   where
     slots : slotsOk (r .own) (r .slots) ≡ true
-    slots = and-right (openingOk (r .own) (r .limit)) (slotsOk (r .own) (r .slots)) e
+    slots = and-right (valuesOk (r .own) (r .limits)) (slotsOk (r .own) (r .slots)) e
 
     held′ : (i k : ℕ) → holds k (at (r .slots) i) ≡ true → (f : Found) → keyPlace (keyAt k) (r .slots) ≡ f
         → Ses (valuesOf r) k (at (r .slots) i) (part i m) (onFound f (λ j. openOf j m (at (r .slots) j)) none)

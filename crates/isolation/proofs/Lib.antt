@@ -27,6 +27,7 @@ pub mod Announced
 pub mod Kept
 pub mod Message
 pub mod Restart
+pub mod Waits
 pub mod Table
 pub mod WholeCase
 pub mod WholeTable

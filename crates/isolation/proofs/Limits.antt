@@ -1,7 +1,7 @@
 -- 23 exactly where 01 says: the record's bounds fact by fact, and the store's length.
 use Prim.Native.Nat.{ℕ, _≤_}
 use mathlib.Core.Path.{_≡_, refl, sym, ap, _∙_, subst}
-use mathlib.Core.Bool.{Bool, true, false, cond, not, _&&_}
+use mathlib.Core.Bool.{Bool, true, false, cond, not, _&&_, false≢true}
 use mathlib.Core.List.{List, [], _∷_}
 use native.Mathlib.Omega.{arith}
 use lib.Dec.{eqb, leb}
@@ -14,12 +14,15 @@ use Rattle.transport.specs.Kinds.{isRts}
 use Rattle.transport.specs.declared.Key.{Key}
 use Rattle.answer.specs.declared.Acceptance.the-variants as acceptance
 use Rattle.answer.specs.Answers.{answerNumber}
+use Rattle.progress.specs.declared.wait.Wait.{Wait}
+use Rattle.progress.specs.declared.wait.Wait.the-variants.{First, Second}
+use Rattle.progress.specs.Waits.{isSecond}
 use Rattle.session.specs.declared.Session.{Session}
 use Rattle.session.specs.declared.State.{State}
 use Rattle.session.specs.declared.State.the-variants.{Closed, Open}
-use Rattle.session.specs.Bounds.{sessionOk, stateOk}
+use Rattle.session.specs.Bounds.{waitOk, sessionOk, stateOk}
 use Rattle.session.specs.InBounds.{Sound, sound-of, of-sound}
-use Rattle.slots.specs.Bounds.{openingOk, slotsOk}
+use Rattle.slots.specs.Bounds.{valuesOk, slotsOk}
 use Rattle.receiver.specs.declared.Receiver.{Receiver}
 use Rattle.receiver.specs.Bounds.{inBounds}
 use Rattle.receiver.specs.Calls.{refused, isReady, frameAll, frameStep, readingStep, stays}
@@ -35,6 +38,16 @@ use Rattle.isolation.proofs.Refused.{never-23, reading-never-23}
 use Rattle.isolation.proofs.Elapsed.{reading-refused}
 
 -- ---- a session
+
+-- what is not by RTS is in the second wait
+by-wait : (w : Wait) (rts : Bool) → waitOk rts w ≡ true → rts ≡ false → w ≡ Second
+by-wait w true e r = absurd (false≢true (sym r))
+by-wait First false e r = absurd (false≢true e)
+by-wait Second false e r = refl
+
+of-wait : (w : Wait) (rts : Bool) → (rts ≡ false → w ≡ Second) → waitOk rts w ≡ true
+of-wait w true f = refl
+of-wait w false f = ap isSecond (f refl)
 
 module _ (own : Address) (s : Session) where
   tests : List Bool
@@ -60,6 +73,7 @@ module _ (own : Address) (s : Session) where
         next-low = h .reached .low;
         next-high = h .reached .high;
         granted = λ r. h .reached .ahead (sym (kind-same (s .announced .kind)) ∙ r);
+        wait = λ r. by-wait (s .progress .wait) (isRts (s .announced .kind)) (h .reached .wait) (sym (kind-same (s .announced .kind)) ∙ r);
       }
 
   in-session : SessionIn own s → sessionOk own s ≡ true
@@ -83,7 +97,12 @@ module _ (own : Address) (s : Session) where
             ),
           ),
         );
-        reached = record { low = h .next-low; high = h .next-high; ahead = λ r. h .granted (kind-same (s .announced .kind) ∙ r) };
+        reached = record {
+          low = h .next-low;
+          high = h .next-high;
+          ahead = λ r. h .granted (kind-same (s .announced .kind) ∙ r);
+          wait = of-wait (s .progress .wait) (isRts (s .announced .kind)) (λ r. h .wait (kind-same (s .announced .kind) ∙ r));
+        };
       })
 
   -- its key is one of those that a frame can have
@@ -121,25 +140,33 @@ pub in-bounds-exactly : (r : Receiver) → (inBounds r ≡ true → RecordIn r) 
 unfolding inBounds
 in-bounds-exactly r = (into, out)
   where
-    into : (openingOk (r .own) (r .limit) && slotsOk (r .own) (r .slots)) ≡ true → RecordIn r
+    into : (valuesOk (r .own) (r .limits) && slotsOk (r .own) (r .slots)) ≡ true → RecordIn r
     into e =
-        let a = allowed (r .own) (r .limit) (and-left (openingOk (r .own) (r .limit)) (slotsOk (r .own) (r .slots)) e) in
-        let ok = and-right (openingOk (r .own) (r .limit)) (slotsOk (r .own) (r .slots)) e in
+        let a = allowed (r .own) (r .limits) (and-left (valuesOk (r .own) (r .limits)) (slotsOk (r .own) (r .slots)) e) in
+        let ok = and-right (valuesOk (r .own) (r .limits)) (slotsOk (r .own) (r .slots)) e in
         let one : (i : ℕ) (s : Session) → at (r .slots) i ≡ Open s
         → SessionIn (r .own) s = λ i s y. session-in (r .own) s (state-of (r .own) (at (r .slots) i) (true-all (r .own) (r .slots) ok i) s y) in
         record {
-          own = a .0;
-          limit-low = a .1;
-          limit-high = a .2;
+          own = a .own-address;
+          first-low = a .first-low;
+          first-high = a .first-high;
+          second-low = a .second-low;
+          second-high = a .second-high;
           sessions = one;
           apart = λ i j s t y z k. true-unique (r .own) (r .slots) ok i j (keyNumber (t .announced .key))
-              (holds-own (at (r .slots) i) s y (key-small (r .own) s (a .0) (one i s y)) t k)
-              (holds-own (at (r .slots) j) t z (key-small (r .own) t (a .0) (one j t z)) t refl);
+              (holds-own (at (r .slots) i) s y (key-small (r .own) s (a .own-address) (one i s y)) t k)
+              (holds-own (at (r .slots) j) t z (key-small (r .own) t (a .own-address) (one j t z)) t refl);
         }
 
-    out : RecordIn r → (openingOk (r .own) (r .limit) && slotsOk (r .own) (r .slots)) ≡ true
+    out : RecordIn r → (valuesOk (r .own) (r .limits) && slotsOk (r .own) (r .slots)) ≡ true
     out h =
-        both (openingOk (r .own) (r .limit)) (slotsOk (r .own) (r .slots)) (ok-of (r .own) (r .limit) (h .own, h .limit-low, h .limit-high))
+        both (valuesOk (r .own) (r .limits)) (slotsOk (r .own) (r .slots)) (ok-of (r .own) (r .limits) (record {
+          own-address = h .own;
+          first-low = h .first-low;
+          first-high = h .first-high;
+          second-low = h .second-low;
+          second-high = h .second-high;
+        }))
         (slots-true (r .own) (h .own) (r .slots)
         (λ i j k e f.
         let p = held-by k (at (r .slots) i) e in

@@ -51,7 +51,7 @@ pub record OpensIn (r : Receiver) (k : ℕ) (a : Announcement) (r′ : Receiver)
   pub opens : at (r′ .slots) slot ≡ Open (sessionOf (keyAt k) a (r .last))
   pub others : (j : ℕ) → (j ≡ slot → ⊥) → at (r′ .slots) j ≡ at (r .slots) j
   pub own : r′ .own ≡ r .own
-  pub limit : r′ .limit ≡ r .limit
+  pub limits : r′ .limits ≡ r .limits
   pub last : r′ .last ≡ r .last
 
 -- ---- an announcement that is accepted meets a closed key and room, or is a restart
@@ -109,7 +109,7 @@ module _ (r : Receiver) (k : ℕ) (a : Announcement) where
         opens = ap (λ (x : Slot). x .state) (getD-set-same (r .slots) i _ freeSlot low);
         others = λ j ne. ap (λ (x : Slot). x .state) (getD-set-other (r .slots) i j _ freeSlot ne);
         own = refl;
-        limit = refl;
+        limits = refl;
         last = refl;
       })
 

@@ -11,11 +11,11 @@ use lib.Dec.{eqb, leb}
 use lib.ListN.{length, set, length-set, length-map, List·getD-map}
 use lib.Seq.{getD-set-same, getD-set-other}
 use borrow.Author.Tests.{eqb-true, eq-eqb, ne-eqb, le-leb, lt-leb, leb-true}
+use Rattle.progress.specs.declared.wait.IdleLimits.{IdleLimits}
 use Rattle.laws.specs.Choice.{each-of}
 use Rattle.frame.specs.declared.Address.{Address}
 use Rattle.session.specs.declared.Session.{Session}
 use Rattle.transport.specs.Kinds.{isRts}
-use Rattle.session.specs.Ends.{elapsed}
 use Rattle.receiver.specs.declared.Receiver.{Receiver}
 use Rattle.slots.specs.declared.Slot.{Slot}
 use Rattle.session.specs.declared.State.{State}
@@ -25,7 +25,7 @@ use Rattle.slots.specs.declared.Found.the-variants.{At, Nothing}
 use Rattle.slots.specs.Slots.{keyPlace, firstFree, slotFor, stateIn, isAt, orElse, freeSlot, freeState}
 use Rattle.session.specs.Bounds.{sessionOk, stateOk}
 use Rattle.session.specs.InBounds.{sound-of}
-use Rattle.slots.specs.Bounds.{openingOk}
+use Rattle.slots.specs.Bounds.{valuesOk}
 use Rattle.receiver.specs.Calls.{Outcome, withSlot, slotOf, afterEnd, expired, expiredState, slotEnd, endOf, readingKept}
 use Rattle.session.specs.declared.Step.{Step}
 use Rattle.session.specs.Decisions as D
@@ -37,7 +37,7 @@ use Rattle.isolation.specs.Replies.{Reply}
 use Rattle.isolation.specs.Rules.{Values, Open, Out, isOpen, rule, judgedAt, endsAt, mine, nextState, output, outputs}
 use Rattle.isolation.specs.World.{frame, clock, lent, World, eightOthers, isAnnouncement, seesBody, sees, after, worldAfter}
 use Rattle.isolation.specs.Observe.{replyOf, lost, isBody, isOwn, strays, frameSeen, endingOf, endingsOf, readingSeen}
-use Rattle.isolation.proofs.Tests.{or-false, clash, and-left, or-1}
+use Rattle.isolation.proofs.Tests.{or-false, clash, or-1}
 use Rattle.slots.specs.Searches.{lowest-some, lowest-none}
 use Rattle.isolation.proofs.Slots.{Slots, at, holds, holds-free, holds-one, keyNumber, Small, find-some, find-none, Unique}
 use Rattle.isolation.proofs.Count.{count-same}
@@ -50,9 +50,9 @@ use Rattle.isolation.proofs.Read.{Foreign, Takes, Agrees, plain-quiet, 
 
 -- the receiver's record and store, and the world of rules
 pub record Sim (v : Values) (r : Receiver) (m : List ℕ) (w : World) : Type 0 where
-  pub good : openingOk (v .own) (v .limit) ≡ true
+  pub good : valuesOk (v .own) (v .limits) ≡ true
   pub own : r .own ≡ v .own
-  pub limit : r .limit ≡ v .limit
+  pub limits : r .limits ≡ v .limits
   pub eight : length (r .slots) ≡ 8
   pub whole : length m ≡ 32768
   pub last : (k : ℕ) → w k .last ≡ r .last
@@ -61,9 +61,18 @@ pub record Sim (v : Values) (r : Receiver) (m : List ℕ) (w : World) : Type 0 w
   pub uniq : Unique (r .slots)
   pub ok : (i : ℕ) → stateOk (v .own) (at (r .slots) i) ≡ true
 
-pub own-small : (own : Address) (limit : ℕ) → openingOk own limit ≡ true → own .0 ≤ 253
-own-small own limit e =
-    leb-true (own .0) 253 (and-left (leb (own .0) 253) (leb 1 limit) (and-left (leb (own .0) 253 && leb 1 limit) (leb limit 60000) e))
+abbrev pub values-tests : Address → IdleLimits → List Bool
+values-tests own limits =
+    leb (own .0) 253
+    ∷ leb 1 (limits .first)
+    ∷ leb (limits .first) 60000
+    ∷ leb 1 (limits .second)
+    ∷ leb (limits .second) 60000
+    ∷ []
+
+pub own-small : (own : Address) (limits : IdleLimits) → valuesOk own limits ≡ true → own .0 ≤ 253
+own-small own limits e =
+    leb-true (own .0) 253 (each-of (values-tests own limits) e .0)
 
 -- ---- a frame that changes its own slot
 
@@ -97,7 +106,7 @@ module _ (v : Values) (r : Receiver) (m : List ℕ) (w : World) (sim : Sim v r m
   moved = record {
     good = sim .good;
     own = sim .own;
-    limit = sim .limit;
+    limits = sim .limits;
     eight = length-set (r .slots) (mv .slot) (record { state = mv .state }) ∙ sim .eight;
     whole = mv .store .whole;
     last = λ j. wl j ∙ sim .last j;
@@ -134,7 +143,7 @@ pub same-sim : (v : Values) (r : Receiver) (m : List ℕ) (w w′ : World) → S
 same-sim v r m w w′ sim es el = record {
   good = sim .good;
   own = sim .own;
-  limit = sim .limit;
+  limits = sim .limits;
   eight = sim .eight;
   whole = sim .whole;
   last = λ j. el j ∙ sim .last j;
@@ -197,7 +206,7 @@ module _ (v : Values) (r : Receiver) (m : List ℕ) (w : World) (sim : Sim v r m
   unfolding eightOthers
   eight-is k =
       ap (leb 8) (count-same (λ j. isOpen (w j .session) && not (eqb j k)) (λ j. any j (r .slots) && not (eqb j k)) allKeys (λ j _. rw (open-any j))
-      ∙ count-others allKeys k (r .slots) (sim .uniq) (λ i. state-bounded (v .own) (at (r .slots) i) (own-small (v .own) (v .limit) (sim .good)) (sim .ok i)))
+      ∙ count-others allKeys k (r .slots) (sim .uniq) (λ i. state-bounded (v .own) (at (r .slots) i) (own-small (v .own) (v .limits) (sim .good)) (sim .ok i)))
 
   -- a slot is free: not eight others
   pub room : (k i : ℕ) → i < length (r .slots) → at (r .slots) i ≡ is.Closed → eightOthers w k ≡ false
@@ -388,38 +397,38 @@ module _ (v : Values) (r : Receiver) (m : List ℕ) (w : World) (sim : Sim v r m
       go (some b) e t =
           subst (λ (z : Outcome). FrameKeeps v r w id d z) (sym (t .0))
           (own-keeps v r m w sim id d b e (bodyStep r (keyAt (frameKey id d)) b d m)
-          (body-fit v r m w sim (frameKey id d) (frame-mine v id d b (own-small (v .own) (v .limit) (sim .good)) e) b d (t .1)))
+          (body-fit v r m w sim (frameKey id d) (frame-mine v id d b (own-small (v .own) (v .limits) (sim .good)) e) b d (t .1)))
 
 -- ---- a reading
 
-endings-none : (limit t k : ℕ) (l : Slots) → ((i : ℕ) → holds k (at l i) ≡ false) → endingsOf k (map (slotEnd limit t) l) ≡ []
+endings-none : (limits : IdleLimits) (t k : ℕ) (l : Slots) → ((i : ℕ) → holds k (at l i) ≡ false) → endingsOf k (map (slotEnd limits t) l) ≡ []
 unfolding endingsOf
-endings-none limit t k [] h = refl
-endings-none limit t k (x ∷ l) h =
-    ap₂ (λ (a b : List Reply). a ++ b) (ends-other limit t k (x .state) (h 0)) (endings-none limit t k l (λ i. h (suc i)))
+endings-none limits t k [] h = refl
+endings-none limits t k (x ∷ l) h =
+    ap₂ (λ (a b : List Reply). a ++ b) (ends-other limits t k (x .state) (h 0)) (endings-none limits t k l (λ i. h (suc i)))
 
-endings-one : (limit t k : ℕ) (l : Slots) → Unique l → (i : ℕ) → holds k (at l i) ≡ true → endingsOf k (map (slotEnd limit t) l) ≡ endingOf k (endOf limit t (at l i))
+endings-one : (limits : IdleLimits) (t k : ℕ) (l : Slots) → Unique l → (i : ℕ) → holds k (at l i) ≡ true → endingsOf k (map (slotEnd limits t) l) ≡ endingOf k (endOf limits t (at l i))
 unfolding endingsOf
-endings-one limit t k [] u i h = absurd (clash (holds k is.Closed) h (holds-free k))
-endings-one limit t k (x ∷ l) u zero h =
-    ap (λ (b : List Reply). endingOf k (endOf limit t (x .state)) ++ b)
-    (endings-none limit t k l (λ i. or-false (holds k (at l i)) (λ g. let z : 0 ≡ suc i = u 0 (suc i) k h g in omega arith)))
-    ∙ append-nil (endingOf k (endOf limit t (x .state)))
-endings-one limit t k (x ∷ l) u (suc i) h =
-    ap (λ (a : List Reply). a ++ endingsOf k (map (slotEnd limit t) l))
-    (ends-other limit t k (x .state) (or-false (holds k (x .state)) (λ g. let z : 0 ≡ suc i = u 0 (suc i) k g h in omega arith)))
-    ∙ endings-one limit t k l (λ a b n p q. let z : suc a ≡ suc b = u (suc a) (suc b) n p q in omega arith) i h
+endings-one limits t k [] u i h = absurd (clash (holds k is.Closed) h (holds-free k))
+endings-one limits t k (x ∷ l) u zero h =
+    ap (λ (b : List Reply). endingOf k (endOf limits t (x .state)) ++ b)
+    (endings-none limits t k l (λ i. or-false (holds k (at l i)) (λ g. let z : 0 ≡ suc i = u 0 (suc i) k h g in omega arith)))
+    ∙ append-nil (endingOf k (endOf limits t (x .state)))
+endings-one limits t k (x ∷ l) u (suc i) h =
+    ap (λ (a : List Reply). a ++ endingsOf k (map (slotEnd limits t) l))
+    (ends-other limits t k (x .state) (or-false (holds k (x .state)) (λ g. let z : 0 ≡ suc i = u 0 (suc i) k g h in omega arith)))
+    ∙ endings-one limits t k l (λ a b n p q. let z : suc a ≡ suc b = u (suc a) (suc b) n p q in omega arith) i h
 
 module _ (v : Values) (r : Receiver) (m : List ℕ) (w : World) (sim : Sim v r m w) (t : ℕ) where
-  at-map : (i : ℕ) → at (map (expired (r .limit) t) (r .slots)) i ≡ expiredState (r .limit) t (at (r .slots) i)
-  at-map i = ap (λ (x : Slot). x .state) (List·getD-map (expired (r .limit) t) (r .slots) i freeSlot)
+  at-map : (i : ℕ) → at (map (expired (r .limits) t) (r .slots)) i ≡ expiredState (r .limits) t (at (r .slots) i)
+  at-map i = ap (λ (x : Slot). x .state) (List·getD-map (expired (r .limits) t) (r .slots) i freeSlot)
 
-  was : (i k : ℕ) → holds k (at (map (expired (r .limit) t) (r .slots)) i) ≡ true → holds k (at (r .slots) i) ≡ true
-  was i k h = expire-holds (r .limit) t k (at (r .slots) i) (rw (at-map i) at h)
+  was : (i k : ℕ) → holds k (at (map (expired (r .limits) t) (r .slots)) i) ≡ true → holds k (at (r .slots) i) ≡ true
+  was i k h = expire-holds (r .limits) t k (at (r .slots) i) (rw (at-map i) at h)
 
-  expired-ok : (limit : ℕ) (x : State) → stateOk (v .own) x ≡ true → stateOk (v .own) (expiredState limit t x) ≡ true
-  expired-ok limit is.Closed e = refl
-  expired-ok limit (is.Open s) e = go (leb limit (elapsed (s .progress .mark) t))
+  expired-ok : (limits : IdleLimits) (x : State) → stateOk (v .own) x ≡ true → stateOk (v .own) (expiredState limits t x) ≡ true
+  expired-ok limits is.Closed e = refl
+  expired-ok limits (is.Open s) e = go (D.isSilent limits t s)
     where
       go : (b : Bool) → stateOk (v .own) (afterEnd (cond b (end.Ended (D.endingOf s Silence)) end.Stays) (is.Open s)) ≡ true
       go true = refl
@@ -430,32 +439,32 @@ module _ (v : Values) (r : Receiver) (m : List ℕ) (w : World) (sim : Sim v r m
   reading-next = record {
     good = sim .good;
     own = sim .own;
-    limit = sim .limit;
-    eight = length-map (r .slots) (expired (r .limit) t) ∙ sim .eight;
+    limits = sim .limits;
+    eight = length-map (r .slots) (expired (r .limits) t) ∙ sim .eight;
     whole = sim .whole;
     last = λ k. refl;
     held = λ i k h. held′ i k (was i k h);
     shut = λ k h. shut′ k h (keyPlace (keyAt k) (r .slots)) refl;
     uniq = λ i j k g h. sim .uniq i j k (was i k g) (was j k h);
-    ok = λ i. rw (at-map i) (expired-ok (r .limit) (at (r .slots) i) (sim .ok i));
+    ok = λ i. rw (at-map i) (expired-ok (r .limits) (at (r .slots) i) (sim .ok i));
   }
     where
-      held′ : (i k : ℕ) → holds k (at (r .slots) i) ≡ true → Ses v k (at (map (expired (r .limit) t) (r .slots)) i) (part i m) (judgedAt v t (w k .session))
-      held′ i k h = rw (at-map i, sim .limit) (expire-ses v t k (at (r .slots) i) (part i m) (w k .session) (sim .held i k h))
+      held′ : (i k : ℕ) → holds k (at (r .slots) i) ≡ true → Ses v k (at (map (expired (r .limits) t) (r .slots)) i) (part i m) (judgedAt v t (w k .session))
+      held′ i k h = rw (at-map i, sim .limits) (expire-ses v t k (at (r .slots) i) (part i m) (w k .session) (sim .held i k h))
 
-      shut′ : (k : ℕ) → ((i : ℕ) → holds k (at (map (expired (r .limit) t) (r .slots)) i) ≡ false) → (f : Found) → keyPlace (keyAt k) (r .slots) ≡ f
+      shut′ : (k : ℕ) → ((i : ℕ) → holds k (at (map (expired (r .limits) t) (r .slots)) i) ≡ false) → (f : Found) → keyPlace (keyAt k) (r .slots) ≡ f
           → judgedAt v t (w k .session) ≡ none
       shut′ k h Nothing e = rw (sim .shut k (find-none k (r .slots) e))
       shut′ k h (At i) e =
-          ses-shut v k (at (map (expired (r .limit) t) (r .slots)) i) (part i m) (judgedAt v t (w k .session)) (held′ i k (find-some k (r .slots) i e .0)) (h i) .1
+          ses-shut v k (at (map (expired (r .limits) t) (r .slots)) i) (part i m) (judgedAt v t (w k .session)) (held′ i k (find-some k (r .slots) i e .0)) (h i) .1
 
   pub reading-says : (k : ℕ) → readingSeen k (readingKept r t) ≡ outputs v k (w k) (sees v w k (lent (clock t)))
   unfolding readingSeen sees outputs output endsAt
   reading-says k = ap (λ (x : List Reply). R.reading 0 x ∷ []) (go (keyPlace (keyAt k) (r .slots)) refl)
     where
-      go : (f : Found) → keyPlace (keyAt k) (r .slots) ≡ f → endingsOf k (map (slotEnd (r .limit) t) (r .slots)) ≡ endsAt v k t (w k .session)
-      go Nothing e = rw (sim .shut k (find-none k (r .slots) e)) (endings-none (r .limit) t k (r .slots) (find-none k (r .slots) e))
+      go : (f : Found) → keyPlace (keyAt k) (r .slots) ≡ f → endingsOf k (map (slotEnd (r .limits) t) (r .slots)) ≡ endsAt v k t (w k .session)
+      go Nothing e = rw (sim .shut k (find-none k (r .slots) e)) (endings-none (r .limits) t k (r .slots) (find-none k (r .slots) e))
       go (At i) e =
           let h : holds k (at (r .slots) i) ≡ true = find-some k (r .slots) i e .0 in
-          endings-one (r .limit) t k (r .slots) (sim .uniq) i h
-          ∙ rw (sim .limit) (ends-own v t k (at (r .slots) i) (part i m) (w k .session) (sim .held i k h))
+          endings-one (r .limits) t k (r .slots) (sim .uniq) i h
+          ∙ rw (sim .limits) (ends-own v t k (at (r .slots) i) (part i m) (w k .session) (sim .held i k h))

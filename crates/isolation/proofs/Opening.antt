@@ -1,55 +1,69 @@
 -- Which openings are accepted, and what an opening gives: 01, "Numbers that hold everywhere" and the last paragraph of "Numbered refusals".
 use Prim.Native.Nat.{ℕ, zero, suc, _≤_}
 use mathlib.Core.Path.{_≡_, refl}
-use mathlib.Core.Bool.{true, _&&_}
-use lib.Dec.{leb}
+use mathlib.Core.Bool.{true}
 use lib.ListN.{length, replicate}
 use borrow.Author.Tests.{leb-true, le-leb}
+use Rattle.laws.specs.Choice.{each-of, all-of}
+use Rattle.progress.specs.declared.wait.IdleLimits.{IdleLimits}
 use Rattle.frame.specs.declared.Address.{Address}
 use Rattle.frame.specs.declared.refusal.Refusal.the-variants.{OutOfBounds}
 use Rattle.answer.specs.declared.Acceptance.the-variants.{Accepted, Refused}
 use Rattle.session.specs.declared.State.the-variants.{Closed}
 use Rattle.slots.specs.Slots.{freeSlot}
-use Rattle.slots.specs.Bounds.{openingOk}
+use Rattle.slots.specs.Bounds.{valuesOk}
 use Rattle.receiver.specs.declared.Receiver.{Receiver}
 use Rattle.receiver.specs.Bounds.{opened}
-use Rattle.isolation.proofs.Tests.{and-left, and-right, both, or-false}
+use Rattle.isolation.proofs.Tests.{or-false}
 use Rattle.isolation.proofs.Slots.{at}
+use Rattle.isolation.proofs.Many.{values-tests}
 use Rattle.isolation.proofs.Run.{accepted-ok}
 
--- an own address 0 to 253 and an idle limit 1 to 60,000
-abbrev pub Allowed : ℕ → ℕ → Type 0
-Allowed own limit = (own ≤ 253) × (1 ≤ limit) × (limit ≤ 60000)
+-- an own address 0 to 253, and both idle limits 1 to 60,000
+pub record Allowed (own : ℕ) (limits : IdleLimits) : Type 0 where
+  pub own-address : own ≤ 253
+  pub first-low : 1 ≤ limits .first
+  pub first-high : limits .first ≤ 60000
+  pub second-low : 1 ≤ limits .second
+  pub second-high : limits .second ≤ 60000
 
-pub allowed : (own : Address) (limit : ℕ) → openingOk own limit ≡ true → Allowed (own .0) limit
-allowed own limit e =
-    let a = and-left (leb (own .0) 253 && leb 1 limit) (leb limit 60000) e in (
-      leb-true (own .0) 253 (and-left (leb (own .0) 253) (leb 1 limit) a),
-      leb-true 1 limit (and-right (leb (own .0) 253) (leb 1 limit) a),
-      leb-true limit 60000 (and-right (leb (own .0) 253 && leb 1 limit) (leb limit 60000) e),
+pub allowed : (own : Address) (limits : IdleLimits) → valuesOk own limits ≡ true → Allowed (own .0) limits
+allowed own limits e =
+    let t = each-of (values-tests own limits) e in
+    record {
+      own-address = leb-true _ _ (t .0);
+      first-low = leb-true _ _ (t .1 .0);
+      first-high = leb-true _ _ (t .1 .1 .0);
+      second-low = leb-true _ _ (t .1 .1 .1 .0);
+      second-high = leb-true _ _ (t .1 .1 .1 .1 .0);
+    }
+
+pub ok-of : (own : Address) (limits : IdleLimits) → Allowed (own .0) limits → valuesOk own limits ≡ true
+ok-of own limits h =
+    all-of (values-tests own limits) (
+      le-leb _ _ (h .own-address),
+      (
+        le-leb _ _ (h .first-low),
+        (le-leb _ _ (h .first-high), (le-leb _ _ (h .second-low), (le-leb _ _ (h .second-high), tt))),
+      ),
     )
 
-pub ok-of : (own : Address) (limit : ℕ) → Allowed (own .0) limit → openingOk own limit ≡ true
-ok-of own limit (a, b, c) =
-    both (leb (own .0) 253 && leb 1 limit) (leb limit 60000)
-    (both (leb (own .0) 253) (leb 1 limit) (le-leb (own .0) 253 a) (le-leb 1 limit b)) (le-leb limit 60000 c)
-
 -- An opening is accepted exactly for those, and refused with 23 for all others.
-pub accepted-exactly : (own : Address) (limit first : ℕ)
-    → (opened own limit first .answer ≡ Accepted → Allowed (own .0) limit)
-    × (Allowed (own .0) limit → opened own limit first .answer ≡ Accepted)
-    × ((Allowed (own .0) limit → ⊥) → opened own limit first .answer ≡ Refused OutOfBounds)
+pub accepted-exactly : (own : Address) (limits : IdleLimits) (first : ℕ)
+    → (opened own limits first .answer ≡ Accepted → Allowed (own .0) limits)
+    × (Allowed (own .0) limits → opened own limits first .answer ≡ Accepted)
+    × ((Allowed (own .0) limits → ⊥) → opened own limits first .answer ≡ Refused OutOfBounds)
 unfolding opened
-accepted-exactly own limit first = (
-  (λ e. allowed own limit (accepted-ok own limit first e)),
-  (λ h. rw (ok-of own limit h)),
-  (λ n. rw (or-false (openingOk own limit) (λ e. n (allowed own limit e)))),
+accepted-exactly own limits first = (
+  (λ e. allowed own limits (accepted-ok own limits first e)),
+  (λ h. rw (ok-of own limits h)),
+  (λ n. rw (or-false (valuesOk own limits) (λ e. n (allowed own limits e)))),
 )
 
 -- The record has the values given, the reading as its last, and eight slots, none of them open: accepted or not.
-pub record Given (own : Address) (limit first : ℕ) (r : Receiver) : Type 0 where
+pub record Given (own : Address) (limits : IdleLimits) (first : ℕ) (r : Receiver) : Type 0 where
   pub own-address : r .own ≡ own
-  pub idle-limit : r .limit ≡ limit
+  pub idle-limits : r .limits ≡ limits
   pub last-reading : r .last ≡ first
   pub eight : length (r .slots) ≡ 8
   pub none-open : (i : ℕ) → at (r .slots) i ≡ Closed
@@ -59,7 +73,7 @@ free zero i = refl
 free (suc n) zero = refl
 free (suc n) (suc i) = free n i
 
-pub opened-gives : (own : Address) (limit first : ℕ) → Given own limit first (opened own limit first .receiver)
+pub opened-gives : (own : Address) (limits : IdleLimits) (first : ℕ) → Given own limits first (opened own limits first .receiver)
 unfolding opened
-opened-gives own limit first =
-    record { own-address = refl; idle-limit = refl; last-reading = refl; eight = refl; none-open = free 8 }
+opened-gives own limits first =
+    record { own-address = refl; idle-limits = refl; last-reading = refl; eight = refl; none-open = free 8 }

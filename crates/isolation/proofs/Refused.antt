@@ -9,6 +9,7 @@ use native.Mathlib.Omega.{arith}
 use lib.Dec.{eqb}
 use lib.ListN.{length, getD, replicate, List·getD-map}
 use borrow.Author.Tests.{eq-eqb}
+use Rattle.progress.specs.declared.wait.IdleLimits.{IdleLimits}
 use Rattle.frame.specs.Refusals.{numberOf}
 use Rattle.frame.specs.declared.Address.{Address}
 use Rattle.frame.specs.Judge.{judged as judged-frame}
@@ -27,15 +28,14 @@ use Rattle.session.specs.declared.State.{State}
 use Rattle.session.specs.declared.State.the-variants as is
 use Rattle.session.specs.declared.Change.the-variants.{Stays, Ends}
 use Rattle.session.specs.declared.Step.{Step}
-use Rattle.session.specs.Ends.{isIdle}
-use Rattle.session.specs.Decisions.{endingOf}
+use Rattle.session.specs.Decisions.{endingOf, isSilent}
 use Rattle.session.specs.Effects as S
 use Rattle.session.specs.Effects.{mild}
 use Rattle.slots.specs.declared.Slot.{Slot}
 use Rattle.slots.specs.declared.Found.{Found}
 use Rattle.slots.specs.declared.Found.the-variants.{At, Nothing}
 use Rattle.slots.specs.Slots.{keyPlace, firstFree, slotFor, stateIn, isAt, orElse, freeSlot, freeState, onFound}
-use Rattle.slots.specs.Bounds.{openingOk}
+use Rattle.slots.specs.Bounds.{valuesOk}
 use Rattle.receiver.specs.declared.Receiver.{Receiver}
 use Rattle.receiver.specs.Bounds.{inBounds, opened}
 use Rattle.receiver.specs.Calls.{Outcome, Elapsed, answered, refused, withSlot, apply, slotOf, isReady, onVerdict, frameAll, frameStep, frameStore, afterEnd, expired, expiredState, endOf, slotEnd, readingKept, readingStep, stays}
@@ -203,9 +203,9 @@ pub data SlotEffect (x : State) (e : End) (y : State) : Type 0 where
   stays-open : e ≡ end.Stays → y ≡ x → SlotEffect x e y
   ends-22 : (s : Session) → x ≡ is.Open s → e ≡ end.Ended (endingOf s Silence) → y ≡ is.Closed → SlotEffect x e y
 
-slot-effect : (limit t : ℕ) (x : State) → SlotEffect x (endOf limit t x) (expiredState limit t x)
-slot-effect limit t is.Closed = stays-open refl refl
-slot-effect limit t (is.Open s) = go (isIdle limit (s .progress .mark) t)
+slot-effect : (limits : IdleLimits) (t : ℕ) (x : State) → SlotEffect x (endOf limits t x) (expiredState limits t x)
+slot-effect limits t is.Closed = stays-open refl refl
+slot-effect limits t (is.Open s) = go (isSilent limits t s)
   where
     go : (b : Bool) → let e : End = cond b (end.Ended (endingOf s Silence)) end.Stays in SlotEffect (is.Open s) e (afterEnd e (is.Open s))
     go true = ends-22 s refl refl refl
@@ -223,30 +223,30 @@ reading-effect r t m i = go (isReady r m)
     go : (b : Bool) → let e : Elapsed = cond b (readingKept r t) (record { next = r; answer = acceptance.Refused OutOfBounds; ends = replicate 8 stays }) in
         SlotEffect (at (r .slots) i) (endAt e i) (at (e .next .slots) i)
     go true =
-        let a : at (map (expired (r .limit) t) (r .slots)) i ≡ expiredState (r .limit) t (at (r .slots) i) =
-        ap (λ (x : Slot). x .state) (List·getD-map (expired (r .limit) t) (r .slots) i freeSlot) in
-        let b : getD (map (slotEnd (r .limit) t) (r .slots)) i stays .end ≡ endOf (r .limit) t (at (r .slots) i) =
-        ap (λ (x : SlotEnd). x .end) (List·getD-map (slotEnd (r .limit) t) (r .slots) i freeSlot) in
-        rw (a, b) (slot-effect (r .limit) t (at (r .slots) i))
+        let a : at (map (expired (r .limits) t) (r .slots)) i ≡ expiredState (r .limits) t (at (r .slots) i) =
+        ap (λ (x : Slot). x .state) (List·getD-map (expired (r .limits) t) (r .slots) i freeSlot) in
+        let b : getD (map (slotEnd (r .limits) t) (r .slots)) i stays .end ≡ endOf (r .limits) t (at (r .slots) i) =
+        ap (λ (x : SlotEnd). x .end) (List·getD-map (slotEnd (r .limits) t) (r .slots) i freeSlot) in
+        rw (a, b) (slot-effect (r .limits) t (at (r .slots) i))
     go false = stays-open (no-ends 8 i) refl
 
 -- ---- a refused opening
 
 -- It gives a record on which every frame and every reading is refused with 23, and nothing changes.
-refused-bounds : (own : Address) (limit first : ℕ) → (opened own limit first .answer ≡ Accepted → ⊥) → inBounds (opened own limit first .receiver) ≡ false
+refused-bounds : (own : Address) (limits : IdleLimits) (first : ℕ) → (opened own limits first .answer ≡ Accepted → ⊥) → inBounds (opened own limits first .receiver) ≡ false
 unfolding opened inBounds
-refused-bounds own limit first h = rw (go (openingOk own limit) h)
+refused-bounds own limits first h = rw (go (valuesOk own limits) h)
   where
     go : (t : Bool) → (cond t Accepted (acceptance.Refused OutOfBounds) ≡ Accepted → ⊥) → t ≡ false
     go true h = absurd (h refl)
     go false h = refl
 
-pub refused-opening-frame : (own : Address) (limit first : ℕ) → (opened own limit first .answer ≡ Accepted → ⊥) → (id : ℕ) (d m : List ℕ)
-    → let r : Receiver = opened own limit first .receiver in frameAll r id d m ≡ (refused r OutOfBounds, m)
+pub refused-opening-frame : (own : Address) (limits : IdleLimits) (first : ℕ) → (opened own limits first .answer ≡ Accepted → ⊥) → (id : ℕ) (d m : List ℕ)
+    → let r : Receiver = opened own limits first .receiver in frameAll r id d m ≡ (refused r OutOfBounds, m)
 unfolding frameAll
-refused-opening-frame own limit first h id d m = rw (refused-bounds own limit first h, and-false (eqb (length m) 32768))
+refused-opening-frame own limits first h id d m = rw (refused-bounds own limits first h, and-false (eqb (length m) 32768))
 
-pub refused-opening-reading : (own : Address) (limit first : ℕ) → (opened own limit first .answer ≡ Accepted → ⊥) → (t : ℕ) (m : List ℕ)
-    → let r : Receiver = opened own limit first .receiver in readingStep r t m ≡ record { next = r; answer = acceptance.Refused OutOfBounds; ends = replicate 8 stays }
+pub refused-opening-reading : (own : Address) (limits : IdleLimits) (first : ℕ) → (opened own limits first .answer ≡ Accepted → ⊥) → (t : ℕ) (m : List ℕ)
+    → let r : Receiver = opened own limits first .receiver in readingStep r t m ≡ record { next = r; answer = acceptance.Refused OutOfBounds; ends = replicate 8 stays }
 unfolding readingStep
-refused-opening-reading own limit first h t m = rw (refused-bounds own limit first h, and-false (eqb (length m) 32768))
+refused-opening-reading own limits first h t m = rw (refused-bounds own limits first h, and-false (eqb (length m) 32768))

@@ -6,6 +6,7 @@ use mathlib.Core.List.{List, [], _∷_, _++_}
 use lib.Dec.{eqb}
 use lib.ListN.{length, replicate}
 use borrow.Author.Tests.{eq-eqb}
+use Rattle.progress.specs.declared.wait.IdleLimits.{IdleLimits}
 use Rattle.frame.specs.declared.Address.{Address}
 use Rattle.frame.specs.declared.refusal.Refusal.the-variants.{OutOfBounds}
 use Rattle.frame.specs.Judge.{judged}
@@ -16,7 +17,7 @@ use Rattle.answer.specs.declared.Acceptance.the-variants as acceptance
 use Rattle.receiver.specs.Calls.{Elapsed}
 use Rattle.slots.specs.Slots.{freeSlot}
 use Rattle.session.specs.Bounds.{stateOk}
-use Rattle.slots.specs.Bounds.{openingOk}
+use Rattle.slots.specs.Bounds.{valuesOk}
 use Rattle.receiver.specs.Bounds.{inBounds, opened, openedWith}
 use Rattle.receiver.specs.Calls.{Outcome, refused, isReady, onVerdict, frameAll, readingKept, readingStep, stays}
 use Rattle.isolation.specs.OwnFrames.{keyAt, frameKey, bodyOf}
@@ -126,12 +127,12 @@ all-free own zero i = refl
 all-free own (suc n) zero = refl
 all-free own (suc n) (suc i) = all-free own n i
 
-pub open-sim : (own : Address) (limit first : ℕ) (m : List ℕ) → openingOk own limit ≡ true → length m ≡ 32768
-    → Sim (record { own = own; limit = limit }) (openedWith own limit first) m (λ j. fresh first)
-open-sim own limit first m g h = record {
+pub open-sim : (own : Address) (limits : IdleLimits) (first : ℕ) (m : List ℕ) → valuesOk own limits ≡ true → length m ≡ 32768
+    → Sim (record { own = own; limits = limits }) (openedWith own limits first) m (λ j. fresh first)
+open-sim own limits first m g h = record {
   good = g;
   own = refl;
-  limit = refl;
+  limits = refl;
   eight = refl;
   whole = h;
   last = λ k. refl;
@@ -145,9 +146,9 @@ isAccepted : Acceptance → Bool
 isAccepted Accepted = true
 isAccepted (Refused n) = false
 
-pub accepted-ok : (own : Address) (limit first : ℕ) → opened own limit first .answer ≡ Accepted → openingOk own limit ≡ true
+pub accepted-ok : (own : Address) (limits : IdleLimits) (first : ℕ) → opened own limits first .answer ≡ Accepted → valuesOk own limits ≡ true
 unfolding opened isAccepted
-accepted-ok own limit first e = go (openingOk own limit) (ap isAccepted e)
+accepted-ok own limits first e = go (valuesOk own limits) (ap isAccepted e)
   where
     go : (t : Bool) → isAccepted (cond t Accepted (Refused OutOfBounds)) ≡ true → t ≡ true
     go true e = refl

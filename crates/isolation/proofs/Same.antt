@@ -19,6 +19,8 @@ use Rattle.transport.specs.declared.Kind.the-variants.{Rts, Bam}
 use Rattle.transport.specs.declared.announcement.Announcement.{Announcement}
 use Rattle.transport.specs.Kinds.{isRts}
 use Rattle.progress.specs.Forward.{grantOf}
+use Rattle.progress.specs.Waits.{waitAfter}
+use Rattle.progress.specs.declared.wait.Wait.the-variants.{First, Second}
 use Rattle.session.specs.Announcements as S
 use Rattle.session.specs.Segments.{dueOf}
 use Rattle.session.specs.Ends.{elapsed}
@@ -133,6 +135,10 @@ misdirected-same own k Bam h e = go (or-either (eqb (keyAt k .da .0) (own .0)) (
     go (inr f) =
         let z : keyAt k .da .0 ≡ 255 = eqb-true (keyAt k .da .0) 255 f in
         rw (f, ne-eqb (keyAt k .da .0) (own .0) (λ y. omega arith))
+
+pub wait-same : (cts : Bool) → waitAfter cts ≡ cond cts First Second
+wait-same true = refl
+wait-same false = refl
 
 pub since-same : (mark t : ℕ) → R.since mark t ≡ elapsed mark t
 unfolding R.since elapsed

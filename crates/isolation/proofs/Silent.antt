@@ -4,11 +4,10 @@ use mathlib.Core.Path.{_≡_, refl, ap}
 use mathlib.Core.Bool.{Bool, true, false, cond}
 use mathlib.Core.Option.{Option, none, some}
 use mathlib.Core.List.{List, [], _∷_}
-use lib.Dec.{leb}
+use Rattle.progress.specs.declared.wait.IdleLimits.{IdleLimits}
 use Rattle.frame.specs.declared.refusal.Refusal.the-variants.{Silence}
 use Rattle.session.specs.declared.Session.{Session}
 use Rattle.transport.specs.Kinds.{isRts}
-use Rattle.session.specs.Ends.{elapsed}
 use Rattle.session.specs.declared.State.{State}
 use Rattle.session.specs.declared.State.the-variants as is
 use Rattle.answer.specs.declared.End.the-variants as end
@@ -42,21 +41,21 @@ ses-shut v k is.Closed p none m e = (refl, refl)
 ses-shut v k is.Closed p (some ρ) m e = absurd m
 ses-shut v k (is.Open s) p y m e = absurd (clash (holds k (is.Open s)) (ses-holds v k s p y m) e)
 
-pub expire-ses : (v : Values) (t k : ℕ) (x : State) (p : List ℕ) (y : Option Open) → Ses v k x p y → Ses v k (expiredState (v .limit) t x) p (judgedAt v t y)
+pub expire-ses : (v : Values) (t k : ℕ) (x : State) (p : List ℕ) (y : Option Open) → Ses v k x p y → Ses v k (expiredState (v .limits) t x) p (judgedAt v t y)
 unfolding judgedAt isSilent
 expire-ses v t k is.Closed p none m = tt
 expire-ses v t k is.Closed p (some ρ) m = absurd m
 expire-ses v t k (is.Open s) p none m = absurd m
-expire-ses v t k (is.Open s) p (some ρ) m = rw (m .0, since-same (ρ .mark) t) (go (leb (v .limit) (elapsed (ρ .mark) t)))
+expire-ses v t k (is.Open s) p (some ρ) m = rw (m .0, since-same (ρ .mark) t) (go (D.isSilent (v .limits) t (recordOf k ρ)))
   where
     go : (b : Bool) → Ses v k (afterEnd (cond b (end.Ended (D.endingOf (recordOf k ρ) Silence)) end.Stays) (is.Open (recordOf k ρ))) p (cond b none (some ρ))
     go true = tt
     go false = (refl, m .1)
 
-pub expire-holds : (limit t k : ℕ) (x : State) → holds k (expiredState limit t x) ≡ true → holds k x ≡ true
+pub expire-holds : (limits : IdleLimits) (t k : ℕ) (x : State) → holds k (expiredState limits t x) ≡ true → holds k x ≡ true
 unfolding holds
-expire-holds limit t k is.Closed e = e
-expire-holds limit t k (is.Open s) e = go (leb limit (elapsed (s .progress .mark) t)) e
+expire-holds limits t k is.Closed e = e
+expire-holds limits t k (is.Open s) e = go (D.isSilent limits t s) e
   where
     go : (b : Bool) → holds k (afterEnd (cond b (end.Ended (D.endingOf s Silence)) end.Stays) (is.Open s)) ≡ true → sameKey (s .announced .key) (keyAt k) ≡ true
     go true e = absurd (clash false e refl)
@@ -68,21 +67,21 @@ end-same k ρ =
     ap (λ (w : Option P.Wire). record { number = 22; says = P.ended (keyAt k) (ρ .told .kind) (ρ .told .pgn); sends = w })
     (wire-cond (isRts (ρ .told .kind)) (F.isRts (ρ .told .kind)) (abortFrame k silent (ρ .told .pgn)) (kind-same (ρ .told .kind)))
 
-pub ends-own : (v : Values) (t k : ℕ) (x : State) (p : List ℕ) (y : Option Open) → Ses v k x p y → endingOf k (endOf (v .limit) t x) ≡ endsAt v k t y
+pub ends-own : (v : Values) (t k : ℕ) (x : State) (p : List ℕ) (y : Option Open) → Ses v k x p y → endingOf k (endOf (v .limits) t x) ≡ endsAt v k t y
 unfolding endingOf endsAt isSilent
 ends-own v t k is.Closed p none m = refl
 ends-own v t k is.Closed p (some ρ) m = absurd m
 ends-own v t k (is.Open s) p none m = absurd m
-ends-own v t k (is.Open s) p (some ρ) m = rw (m .0, since-same (ρ .mark) t) (go (leb (v .limit) (elapsed (ρ .mark) t)))
+ends-own v t k (is.Open s) p (some ρ) m = rw (m .0, since-same (ρ .mark) t) (go (D.isSilent (v .limits) t (recordOf k ρ)))
   where
     go : (b : Bool) → endingOf k (cond b (end.Ended (D.endingOf (recordOf k ρ) Silence)) end.Stays) ≡ cond b (ending k (ρ .told) silent ∷ []) []
     go true = rw (own-key k) (ap (λ (e : Reply). e ∷ []) (end-same k ρ))
     go false = refl
 
-pub ends-other : (limit t k : ℕ) (x : State) → holds k x ≡ false → endingOf k (endOf limit t x) ≡ []
+pub ends-other : (limits : IdleLimits) (t k : ℕ) (x : State) → holds k x ≡ false → endingOf k (endOf limits t x) ≡ []
 unfolding endingOf holds
-ends-other limit t k is.Closed e = refl
-ends-other limit t k (is.Open s) e = go (leb limit (elapsed (s .progress .mark) t))
+ends-other limits t k is.Closed e = refl
+ends-other limits t k (is.Open s) e = go (D.isSilent limits t s)
   where
     go : (b : Bool) → endingOf k (cond b (end.Ended (D.endingOf s Silence)) end.Stays) ≡ []
     go true = rw e

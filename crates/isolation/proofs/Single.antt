@@ -23,6 +23,7 @@ use Rattle.answer.specs.declared.Answer.the-variants as answer
 use Rattle.answer.specs.Answers.{messageBytes, eomaFor}
 use Rattle.answer.specs.Lies.{message-lies}
 use Rattle.progress.specs.Forward.{ctsDue, advancedBy}
+use Rattle.progress.specs.declared.wait.Wait.the-variants.{First, Second}
 use Rattle.session.specs.declared.Session.{Session}
 use Rattle.session.specs.declared.State.{State}
 use Rattle.session.specs.declared.State.the-variants as is
@@ -56,7 +57,7 @@ use Rattle.isolation.specs.Observe.{saysOf, replyOf, touches}
 use Rattle.isolation.proofs.Tests.{or-left, or-right, and-left}
 use Rattle.isolation.proofs.Slots.{other-key}
 use Rattle.isolation.proofs.Bytes.{part, within-self, length-part, take-part, part-paste, within-paste}
-use Rattle.isolation.proofs.Same.{refusalFor, number-same, reason-same, pgn-same, kind-same, grant-same, due-same, numbers-same, misdirected-same, eqb-next}
+use Rattle.isolation.proofs.Same.{refusalFor, number-same, reason-same, pgn-same, kind-same, grant-same, wait-same, due-same, numbers-same, misdirected-same, eqb-next}
 use Rattle.isolation.proofs.Pieces.{cut, segment-inside, taken-same, joined-cut, cut-next}
 use Rattle.isolation.proofs.Fit.{recordOf, Rel, InSlot, Tied, walk, reply-cond, quiet-cond, wire-cond}
 
@@ -147,10 +148,16 @@ module _ (v : Values) (k : ℕ) (f : Found) (m : List ℕ) (whole : length m ≡
   }
     where
       ρ : Open
-      ρ = record { told = a; mark = last; granted = cond (F.isRts (a .kind)) (grant (a .max) (a .segments .0)) 0; pieces = [] }
+      ρ = record {
+        told = a;
+        mark = last;
+        wait = cond (F.isRts (a .kind)) First Second;
+        granted = cond (F.isRts (a .kind)) (grant (a .max) (a .segments .0)) 0;
+        pieces = [];
+      }
 
       same : sessionOf (keyAt k) a last ≡ recordOf k ρ
-      same = rw (kind-same (a .kind), grant-same (a .max) (a .segments .0))
+      same = rw (kind-same (a .kind), grant-same (a .max) (a .segments .0), wait-same (isRts (a .kind)))
 
   -- ---- a key that is closed
 
@@ -292,12 +299,13 @@ module _ (v : Values) (k i : ℕ) (low : suc i ≤ 8) (m : List ℕ) (whole : le
       ρ′ = record {
         told = ρ .told;
         mark = last;
+        wait = cond (spent ρ n) First Second;
         granted = cond (spent ρ n) (n + grant (ρ .told .max) (ρ .told .segments .0 - n)) (ρ .granted);
         pieces = record { number = n; bytes = take (due total n) (dataAt d) } ∷ ρ .pieces;
       }
 
       same : record { announced = recordOf k ρ .announced; progress = advancedBy (recordOf k ρ .progress) (recordOf k ρ .announced) n last } ≡ recordOf k ρ′
-      same = rw (spent-same n, grant-same (ρ .told .max) (ρ .told .segments .0 - n))
+      same = rw (spent-same n, grant-same (ρ .told .max) (ρ .told .segments .0 - n), wait-same (ctsDue (recordOf k ρ .progress) (recordOf k ρ .announced) n))
 
       fits : 60 * (suc (length (ρ .pieces)) - 1) + dueOf (ρ .told .total .0) (suc (length (ρ .pieces))) ≤ 4096
       fits =

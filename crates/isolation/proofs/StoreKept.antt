@@ -30,7 +30,7 @@ use Rattle.session.specs.Steps.{moves-takes}
 use Rattle.slots.specs.declared.Found.{Found}
 use Rattle.slots.specs.declared.Found.the-variants.{At, Nothing}
 use Rattle.slots.specs.Slots.{keyPlace, firstFree, slotFor, stateIn, orElse, freeState, onState}
-use Rattle.slots.specs.Bounds.{openingOk, slotsOk}
+use Rattle.slots.specs.Bounds.{valuesOk, slotsOk}
 use Rattle.receiver.specs.declared.Receiver.{Receiver}
 use Rattle.receiver.specs.Bounds.{inBounds}
 use Rattle.receiver.specs.Calls.{Outcome, refused, isReady, stored, storedBy, onVerdict, frameAll, frameStore}
@@ -68,7 +68,7 @@ pub sound-in : (r : Receiver) → inBounds r ≡ true → (i : ℕ) (s : Session
 unfolding inBounds
 sound-in r bounds i s e =
     sound-of (r .own) s
-    (subst (λ (y : State). stateOk (r .own) y ≡ true) e (true-all (r .own) (r .slots) (and-right (openingOk (r .own) (r .limit)) (slotsOk (r .own) (r .slots)) bounds) i))
+    (subst (λ (y : State). stateOk (r .own) y ≡ true) e (true-all (r .own) (r .slots) (and-right (valuesOk (r .own) (r .limits)) (slotsOk (r .own) (r .slots)) bounds) i))
 
 -- a slot for the key that is open is the one that has the key
 pub held-in : (r : Receiver) (k i : ℕ) (s : Session) → slotFor (keyAt k) (r .slots) ≡ At i → at (r .slots) i ≡ Open s → keyPlace (keyAt k) (r .slots) ≡ At i

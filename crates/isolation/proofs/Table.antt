@@ -10,6 +10,9 @@ use Rattle.transport.specs.declared.Kind.the-variants.{Rts}
 use Rattle.transport.specs.Control.{controlOf}
 use Rattle.transport.specs.Segments.{dataFrameOf}
 use Rattle.progress.specs.Forward.{grantOf}
+use Rattle.progress.specs.declared.wait.Wait.{Wait}
+use Rattle.progress.specs.declared.wait.Wait.the-variants.{First, Second}
+use Rattle.progress.specs.declared.wait.IdleLimits.{IdleLimits}
 use Rattle.session.specs.Announcements.{formOf}
 use Rattle.session.specs.Decisions.{announcedTo, segmentTo, endingOf}
 use Rattle.session.specs.Segments.{dueOf, judgedOf}
@@ -27,9 +30,9 @@ use Rattle.receiver.specs.Bounds.{inBounds, opened}
 use Rattle.receiver.specs.Calls.{Outcome, announceStep, controlStep, segmentStep, frameAll, readingStep, stays}
 use Rattle.answer.specs.Answers.{answerNumber}
 
--- own address 33, limit 1,250, reading 0; the RTS are session 3's, from SA 128, for PGN 65226
+-- own address 33, both limits 1,250, reading 0; the RTS are session 3's, from SA 128, for PGN 65226
 pub r : Receiver
-r = opened (record { 0 = 33 }) 1250 0 .receiver
+r = opened (record { 0 = 33 }) (record { first = 1250; second = 1250 }) 0 .receiver
 
 pub m : List ℕ
 m = replicate 32768 0
@@ -74,10 +77,10 @@ allGrants d =
     let o : Outcome = frameAll r 0x1C4D2180 d m in
     countOf (o .0 .answer) ++ grants 69 1 (o .0 .next) (o .1)
 
--- ---- a clock that runs round: mark 4,294,967,290, limit 1,250
+-- ---- a clock that runs round: mark 4,294,967,290, in either wait, with the standard's limit for each
 
-pub session : Session
-session =
+pub session : Wait → Session
+session wait =
     record {
       announced = record {
         key = key;
@@ -87,16 +90,38 @@ session =
         max = 255;
         pgn = 65226;
       };
-      progress = record { next = record { 0 = 1 }; granted = record { 0 = 2 }; mark = 4294967290 };
+      progress = record { next = record { 0 = 1 }; granted = record { 0 = 2 }; mark = 4294967290; wait = wait };
     }
 
-pub held : Receiver
-held =
+pub limits : IdleLimits
+limits = record { first = 1250; second = 750 }
+
+pub held : Wait → Receiver
+held wait =
     record {
       own = record { 0 = 33 };
-      limit = 1250;
+      limits = limits;
       last = 4294967290;
-      slots = record { state = is.Open session } ∷ replicate 7 freeSlot;
+      slots = record { state = is.Open (session wait) } ∷ replicate 7 freeSlot;
+    }
+
+abbrev pub StaysAt : Wait → ℕ → Type 0
+StaysAt wait t =
+    readingStep (held wait) t m
+    ≡ record {
+      next = record { own = record { 0 = 33 }; limits = limits; last = t; slots = held wait .slots };
+      answer = acceptance.Accepted;
+      ends = replicate 8 stays;
+    }
+
+-- with 22
+abbrev pub EndsAt : Wait → ℕ → Type 0
+EndsAt wait t =
+    readingStep (held wait) t m
+    ≡ record {
+      next = record { own = record { 0 = 33 }; limits = limits; last = t; slots = replicate 8 freeSlot };
+      answer = acceptance.Accepted;
+      ends = record { end = end.Ended (endingOf (session wait) Silence) } ∷ replicate 7 stays;
     }
 
 -- ---- the rows, as one statement
@@ -112,24 +137,15 @@ pub record Rows : Type 0 where
   -- 4,097 bytes, 69 segments: 12
   pub p11 : toRts (rts 1 16 69) ≡ RefusedRts (record { key = key; refusal = TooLong; pgn = 65226 })
   pub p11-number : answerNumber (toRts (rts 1 16 69)) ≡ 12
-  -- reading 1,243: it stays
-  pub p12-stays : readingStep held 1243 m
-      ≡ record {
-        next = record { own = held .own; limit = 1250; last = 1243; slots = held .slots };
-        answer = acceptance.Accepted;
-        ends = replicate 8 stays;
-      }
-  -- reading 1,244: it ends with 22
-  pub p12-ends : readingStep held 1244 m
-      ≡ record {
-        next = record { own = held .own; limit = 1250; last = 1244; slots = replicate 8 freeSlot };
-        answer = acceptance.Accepted;
-        ends = record { end = end.Ended (endingOf session Silence) } ∷ replicate 7 stays;
-      }
+  -- the first wait: reading 1,243 stays, 1,244 ends; the second: 743 stays, 744 ends
+  pub p12-first-stays : StaysAt First 1243
+  pub p12-first-ends : EndsAt First 1244
+  pub p12-second-stays : StaysAt Second 743
+  pub p12-second-ends : EndsAt Second 744
 
 pub rows : Rows
 unfolding r m key rts toRts opened inBounds slotsOk frameAll judged byFormat controlStep controlOf announceStep formOf announcedTo
-    grantOf allGrants grants countOf dt dataFrameOf segmentStep segmentTo judgedOf dueOf session held readingStep elapsed
+    grantOf allGrants grants countOf dt dataFrameOf segmentStep segmentTo judgedOf dueOf session limits held readingStep elapsed
 rows =
     record {
       p8 = refl;
@@ -138,6 +154,8 @@ rows =
       p10 = refl;
       p11 = refl;
       p11-number = refl;
-      p12-stays = refl;
-      p12-ends = refl;
+      p12-first-stays = refl;
+      p12-first-ends = refl;
+      p12-second-stays = refl;
+      p12-second-ends = refl;
     }

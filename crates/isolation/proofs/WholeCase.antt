@@ -4,6 +4,7 @@ use mathlib.Core.Path.{_≡_, refl}
 use mathlib.Core.Option.{some}
 use mathlib.Core.List.{List, [], _∷_}
 use lib.ListN.{replicate}
+use Rattle.progress.specs.declared.wait.IdleLimits.{IdleLimits}
 use Rattle.frame.specs.Judge.{judged, byFormat}
 use Rattle.multi_pg.specs.Groups as Groups
 use Rattle.transport.specs.declared.Kind.the-variants.{Rts}
@@ -40,12 +41,16 @@ calls =
     ∷ []
 
 -- the opening is accepted, so the theorem speaks of it
-accepted : opened (record { 0 = 33 }) 1250 0 .answer ≡ Accepted
+-- the program's: one limit for both
+abbrev limits : IdleLimits
+limits = record { first = 1250; second = 1250 }
+
+accepted : opened (record { 0 = 33 }) limits 0 .answer ≡ Accepted
 unfolding opened
 accepted = refl
 
 -- the CTS and the Abort, with identifier and bytes
-whole-case : observed (record { own = record { 0 = 33 }; limit = 1250 }) k (opened (record { 0 = 33 }) 1250 0 .receiver) (replicate 32768 0) calls
+whole-case : observed (record { own = record { 0 = 33 }; limits = limits }) k (opened (record { 0 = 33 }) limits 0 .receiver) (replicate 32768 0) calls
     ≡ reading 0 []
     ∷ answer (record {
       number = 0;

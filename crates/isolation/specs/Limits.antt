@@ -3,9 +3,10 @@
 use Prim.Native.Nat.{ℕ, _+_, _≤_}
 use mathlib.Core.Path.{_≡_}
 use mathlib.Core.Logic.{_⊎_}
-use mathlib.Core.Bool.{true, cond}
+use mathlib.Core.Bool.{true, false, cond}
 use lib.ListN.{getD}
 use Rattle.frame.specs.declared.Address.{Address}
+use Rattle.progress.specs.declared.wait.Wait.the-variants.{Second}
 use Rattle.session.specs.declared.Session.{Session}
 use Rattle.session.specs.declared.State.the-variants as slot
 use Rattle.slots.specs.Slots.{freeSlot}
@@ -33,12 +34,16 @@ pub record SessionIn (own : Address) (s : Session) : Type 0 where
   pub granted : isRts (s .announced .kind) ≡ true
       → ((s .progress .next .0 ≤ s .progress .granted .0) × (s .progress .granted .0 ≤ s .announced .segments .0))
       ⊎ ((s .progress .next .0 ≡ s .announced .segments .0 + 1) × (s .progress .granted .0 ≡ s .announced .segments .0))
+  -- 02, E4: of the two waits a BAM has the second only
+  pub wait : isRts (s .announced .kind) ≡ false → s .progress .wait ≡ Second
 
 -- opening values, each open slot, and no two of one key
 pub record RecordIn (r : Receiver) : Type 0 where
   pub own : r .own .0 ≤ 253
-  pub limit-low : 1 ≤ r .limit
-  pub limit-high : r .limit ≤ 60000
+  pub first-low : 1 ≤ r .limits .first
+  pub first-high : r .limits .first ≤ 60000
+  pub second-low : 1 ≤ r .limits .second
+  pub second-high : r .limits .second ≤ 60000
   pub sessions : (i : ℕ) (s : Session) → getD (r .slots) i freeSlot .state ≡ slot.Open s → SessionIn (r .own) s
   pub apart : (i j : ℕ) (s t : Session) → getD (r .slots) i freeSlot .state ≡ slot.Open s → getD (r .slots) j freeSlot .state ≡ slot.Open t
       → s .announced .key ≡ t .announced .key → i ≡ j

@@ -11,6 +11,10 @@ use Rattle.transport.specs.declared.Kind.{Kind}
 use Rattle.transport.specs.declared.Kind.the-variants.{Rts, Bam}
 use Rattle.transport.specs.declared.announcement.Announcement.{Announcement}
 use Rattle.transport.specs.declared.eoms.Status.{Status}
+use Rattle.progress.specs.declared.wait.Wait.{Wait}
+use Rattle.progress.specs.declared.wait.Wait.the-variants.{First, Second}
+use Rattle.progress.specs.declared.wait.IdleLimits.{IdleLimits}
+use Rattle.progress.specs.Waits.{limitIn}
 use Rattle.isolation.specs.Standard.{Cause, pgnWrong, numbersWrong, tooLong, assured, keyOpen, eightOpen, outOfOrder, unlikeAnnounced, silent, inPgnForm}
 use Rattle.isolation.specs.OwnFrames.{keyAt, isRts, Body, announce, segment, status, abort}
 use Rattle.isolation.specs.Replies.{Reply, opened, took, aborted, refuse, reject, ending, cts, plain, handOver}
@@ -18,9 +22,9 @@ use Rattle.isolation.specs.Replies.{Reply, opened, took, aborted, refuse
 -- the opening values
 pub record Values : Type 0 where
   pub own : Address
-  pub limit : ℕ
+  pub limits : IdleLimits
 
--- ---- state: the last reading; closed, or open with the fields announced, mark, last granted and the data taken by segment number
+-- ---- state: the last reading; closed, or open with the fields announced, mark, wait, last granted and the data taken by segment number
 
 pub record Piece : Type 0 where
   pub number : ℕ
@@ -29,6 +33,8 @@ pub record Piece : Type 0 where
 pub record Open : Type 0 where
   pub told : Announcement
   pub mark : ℕ
+  -- which silence counts from the mark: 02, E4
+  pub wait : Wait
   -- the last segment granted; a BAM has no grants, and 0
   pub granted : ℕ
   pub pieces : List Piece
@@ -86,11 +92,17 @@ least a b = cond (leb a b) a b
 unfoldable pub grant : ℕ → ℕ → ℕ
 grant max left = least (least max 16) left
 
--- opens with none taken; an RTS is answered by CTS from segment 1
+-- opens with none taken; an RTS is answered by CTS from segment 1, and the first wait is on; a BAM has only the second
 unfoldable pub opens : ℕ → ℕ → Announcement → Out
 opens k last a =
     let count : ℕ = grant (a .max) (a .segments .0) in (
-      some (record { told = a; mark = last; granted = cond (isRts (a .kind)) count 0; pieces = [] }),
+      some (record {
+        told = a;
+        mark = last;
+        wait = cond (isRts (a .kind)) First Second;
+        granted = cond (isRts (a .kind)) count 0;
+        pieces = [];
+      }),
       cond (isRts (a .kind)) (cts k 1 count (a .pgn)) (plain (opened (keyAt k))),
     )
 
@@ -128,13 +140,15 @@ closes k r c = (none, ending k (r .told) c)
 unfoldable pub spent : Open → ℕ → Bool
 spent r n = isRts (r .told .kind) && (eqb n (r .granted) && ltb n (r .told .segments .0))
 
--- the data due is added, and the mark is the last reading; a grant used up is followed by a CTS
+-- the data due is added, and the mark is the last reading; a grant used up is followed by a CTS and so by the first wait, any other segment
+-- by the second
 unfoldable pub adds : ℕ → ℕ → Open → ℕ → List ℕ → Out
 adds k last r n d =
     let count : ℕ = grant (r .told .max) (r .told .segments .0 - n) in (
       some (record {
         told = r .told;
         mark = last;
+        wait = cond (spent r n) First Second;
         granted = cond (spent r n) (n + count) (r .granted);
         pieces = record { number = n; bytes = take (due (r .told .total .0) n) d } ∷ r .pieces;
       }),
@@ -187,8 +201,9 @@ rule v k last eight x (abort pgn) = ifOpen x (λ r. abortOpen k r pgn)
 unfoldable pub since : ℕ → ℕ → ℕ
 since mark t = (t + 2 ^ 32 - mark) % 2 ^ 32
 
+-- for as long as the limit in force
 unfoldable pub isSilent : Values → ℕ → Open → Bool
-isSilent v t r = leb (v .limit) (since (r .mark) t)
+isSilent v t r = leb (limitIn (v .limits) (r .wait)) (since (r .mark) t)
 
 -- the session after the reading, and its ending if it ends
 unfoldable pub judgedAt : Values → ℕ → Option Open → Option Open

@@ -12,7 +12,7 @@ use Rattle.isolation.specs.Rules.{Values, Open, Piece, due}
 use Rattle.isolation.specs.World.{World}
 
 abbrev pub valuesOf : Receiver → Values
-valuesOf r = record { own = r .own; limit = r .limit }
+valuesOf r = record { own = r .own; limits = r .limits }
 
 -- segments 1 to n of the message in slot i, the latest first
 unfoldable pub piecesOf : ℕ → List ℕ → ℕ → ℕ → List Piece
@@ -34,6 +34,7 @@ openOf i m (slot.Open s) =
         pgn = s .announced .pgn;
       };
       mark = s .progress .mark;
+      wait = s .progress .wait;
       granted = s .progress .granted .0;
       pieces = piecesOf i m (s .announced .total .0) (s .progress .next .0 - 1);
     })

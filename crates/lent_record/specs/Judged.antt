@@ -1,7 +1,7 @@
 -- A record's pieces judged one after the other, and that this is the judgement of codes and slots.
 use Prim.Native.Nat.{ℕ, zero, suc, _+_, _<_}
 use native.Mathlib.Omega.{arith}
-use mathlib.Core.Path.{_≡_, refl, sym, ap, _∙_}
+use mathlib.Core.Path.{_≡_, refl, sym, ap, ap₂, _∙_}
 use mathlib.Core.Bool.{Bool, true, false, cond, not, _&&_, _||_, false≢true, and-true, and-assoc}
 use mathlib.Core.List.{List, [], _∷_, map}
 use lib.Dec.{eqb}
@@ -14,17 +14,17 @@ use Rattle.session.specs.declared.Session.{Session}
 use Rattle.slots.specs.declared.Slot.{Slot}
 use Rattle.session.specs.declared.State.the-variants.{Closed, Open}
 use Rattle.session.specs.Bounds.{sessionOk, stateOk}
-use Rattle.slots.specs.Bounds.{openingOk, anyHolds, stateTwin, slotsOk}
+use Rattle.slots.specs.Bounds.{valuesOk, anyHolds, stateTwin, slotsOk}
 use Rattle.receiver.specs.Bounds.{inBounds}
-use Rattle.record_bytes.specs.Places.{recordLength, headLength, slotLength, statePlace, kindPlace, slotPlace}
-use Rattle.record_bytes.specs.Layout.{codesOk, sessionAt, slotAt, piecesOf, slotsAt, codesAll, isRecord, recordAt}
+use Rattle.record_bytes.specs.Places.{recordLength, headLength, slotLength, statePlace, kindPlace, waitPlace, slotPlace}
+use Rattle.record_bytes.specs.Layout.{isCode, codesOk, codesIn, sessionAt, slotAt, piecesOf, slotsAt, codesAll, isRecord, recordAt}
 use Rattle.record_bytes.specs.Pieces.{length-pieces, piece-of, byte-of}
 use Rattle.lent_record.specs.Ready.{readyIn}
 
 -- a slot whose first byte is not 0, with the pieces after it
 unfoldable pub openReady : Address → List ℕ → List (List ℕ) → Bool
 openReady own p ps =
-    codesOk (getD p statePlace 0) (getD p kindPlace 0) && sessionOk own (sessionAt p) && not (anyHolds (sessionAt p .announced .key) (map slotAt ps))
+    codesIn p && sessionOk own (sessionAt p) && not (anyHolds (sessionAt p .announced .key) (map slotAt ps))
 
 unfoldable pub piecesReady : Address → List (List ℕ) → Bool
 piecesReady own [] = true
@@ -41,7 +41,7 @@ in-order q o t c s =
     ∙ sym (and-assoc q c (x && s))
     ∙ ap (λ (u : Bool). u && (x && s)) (sym (guarded q c))
 
--- x: the first byte is 0; y: it is 1; q: the second is a kind
+-- x: the first byte is 0; y: it is 1; q: the kind and the wait are codes
 by-code : (own : Address) (s : Session) (ss : List Slot) (x y q c r : Bool) → (x ≡ true → y ≡ true → false ≡ true)
     → ((x || ((x || (y && q)) && sessionOk own s && not (anyHolds (s .announced .key) ss))) && (c && r))
     ≡ (cond (not (x || (y && q))) false c && (stateOk own (cond y (Open s) Closed) && not (stateTwin (cond y (Open s) Closed) ss) && r))
@@ -58,9 +58,9 @@ unfolding piecesReady openReady codesAll slotsOk
 pieces-ready own [] = refl
 pieces-ready own (p ∷ ps) =
     let n : ℕ = getD p statePlace 0 in
-    let k : ℕ = getD p kindPlace 0 in
-    ap (λ (t : Bool). (eqb n 0 || (codesOk n k && sessionOk own (sessionAt p) && not (anyHolds (sessionAt p .announced .key) (map slotAt ps)))) && t) (pieces-ready own ps)
-    ∙ by-code own (sessionAt p) (map slotAt ps) (eqb n 0) (eqb n 1) (eqb k 1 || eqb k 2) (codesAll ps) (slotsOk own (map slotAt ps)) (two-codes n)
+    let q : Bool = isCode (getD p kindPlace 0) && isCode (getD p waitPlace 0) in
+    ap (λ (t : Bool). (eqb n 0 || (codesIn p && sessionOk own (sessionAt p) && not (anyHolds (sessionAt p .announced .key) (map slotAt ps)))) && t) (pieces-ready own ps)
+    ∙ by-code own (sessionAt p) (map slotAt ps) (eqb n 0) (eqb n 1) q (codesAll ps) (slotsOk own (map slotAt ps)) (two-codes n)
 
 -- slot i, and those after it
 abbrev pub readyAt : Address → List ℕ → ℕ → Bool
@@ -110,7 +110,7 @@ eight-ready own b x y z w ex ey ez ew =
     ∙ ap (λ (t : Bool). T 0 && t) (sym (two-turn own b 2 (omega arith)))
     ∙ sym (two-turn own b 0 (omega arith))
 
--- ---- slot i by what was read of it: its two codes, its session, and whether its key is open in a slot after it
+-- ---- slot i by what was read of it: its codes, its session, and whether its key is open in a slot after it
 
 drop-map : (ps : List (List ℕ)) (n : ℕ) → drop n (map slotAt ps) ≡ map slotAt (drop n ps)
 drop-map ps zero = refl
@@ -118,7 +118,7 @@ drop-map [] (suc n) = refl
 drop-map (p ∷ ps) (suc n) = drop-map ps n
 
 module _ (own : Address) (b : List ℕ) (i : ℕ) (h : i < 8) where
-  module _ (x : Bool) (ex : x ≡ codesOk (getD b (slotPlace i) 0) (getD b (slotPlace i + kindPlace) 0)) where
+  module _ (x : Bool) (ex : x ≡ codesOk (getD b (slotPlace i) 0) (getD b (slotPlace i + kindPlace) 0) (getD b (slotPlace i + waitPlace) 0)) where
     judged : (y z : Bool) (s : Session) → s ≡ sessionAt (take slotLength (drop (slotPlace i) b)) → y ≡ sessionOk own s → z ≡ anyHolds (s .announced .key) (drop (i + 1) (slotsAt b))
         → (x && y && not z) ≡ openReady own (getD (piecesOf b) i []) (drop (i + 1) (piecesOf b))
     unfolding openReady
@@ -128,12 +128,12 @@ module _ (own : Address) (b : List ℕ) (i : ℕ) (h : i < 8) where
         let ss : List Slot = drop (i + 1) (slotsAt b) in
         let e : at ≡ at + statePlace = omega arith in
         ap (λ (u : Bool). u && y && not z) (ex
-        ∙ ap (λ (n : ℕ). codesOk n (getD b (at + kindPlace) 0)) (ap (λ (m : ℕ). getD b m 0) e ∙ sym (byte-of b i statePlace h (omega arith)))
-        ∙ ap (codesOk (getD p statePlace 0)) (sym (byte-of b i kindPlace h (omega arith))))
-        ∙ ap (λ (u : Bool). codesOk (getD p statePlace 0) (getD p kindPlace 0) && u && not z) ey
-        ∙ ap (λ (u : Bool). codesOk (getD p statePlace 0) (getD p kindPlace 0) && sessionOk own s && not u) ez
-        ∙ ap (λ (v : Session). codesOk (getD p statePlace 0) (getD p kindPlace 0) && sessionOk own v && not (anyHolds (v .announced .key) ss)) (es ∙ ap sessionAt (sym (piece-of b i h)))
-        ∙ ap (λ (l : List Slot). codesOk (getD p statePlace 0) (getD p kindPlace 0) && sessionOk own (sessionAt p) && not (anyHolds (sessionAt p .announced .key) l)) (drop-map (piecesOf b) (i + 1))
+        ∙ ap (λ (n : ℕ). codesOk n (getD b (at + kindPlace) 0) (getD b (at + waitPlace) 0)) (ap (λ (m : ℕ). getD b m 0) e ∙ sym (byte-of b i statePlace h (omega arith)))
+        ∙ ap₂ (codesOk (getD p statePlace 0)) (sym (byte-of b i kindPlace h (omega arith))) (sym (byte-of b i waitPlace h (omega arith))))
+        ∙ ap (λ (u : Bool). codesIn p && u && not z) ey
+        ∙ ap (λ (u : Bool). codesIn p && sessionOk own s && not u) ez
+        ∙ ap (λ (v : Session). codesIn p && sessionOk own v && not (anyHolds (v .announced .key) ss)) (es ∙ ap sessionAt (sym (piece-of b i h)))
+        ∙ ap (λ (l : List Slot). codesIn p && sessionOk own (sessionAt p) && not (anyHolds (sessionAt p .announced .key) l)) (drop-map (piecesOf b) (i + 1))
 
     pub no-codes : x ≡ false → false ≡ openReady own (getD (piecesOf b) i []) (drop (i + 1) (piecesOf b))
     no-codes f =
@@ -162,10 +162,10 @@ reorder l c s o k =
 
 pub ready-in : (b : List ℕ) (store : ℕ)
     → readyIn b store
-    ≡ (eqb (length b) recordLength && (eqb store 32768 && (openingOk (recordAt b .own) (recordAt b .limit) && piecesReady (recordAt b .own) (piecesOf b))))
+    ≡ (eqb (length b) recordLength && (eqb store 32768 && (valuesOk (recordAt b .own) (recordAt b .limits) && piecesReady (recordAt b .own) (piecesOf b))))
 unfolding readyIn isRecord inBounds
 ready-in b store =
     let own : Address = recordAt b .own in
-    let opening : Bool = openingOk own (recordAt b .limit) in
+    let opening : Bool = valuesOk own (recordAt b .limits) in
     reorder (eqb (length b) recordLength) (codesAll (piecesOf b)) (eqb store 32768) opening (slotsOk own (slotsAt b))
     ∙ ap (λ (t : Bool). eqb (length b) recordLength && (eqb store 32768 && (opening && t))) (sym (pieces-ready own (piecesOf b)))

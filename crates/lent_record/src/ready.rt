@@ -3,23 +3,26 @@ ghost use mathlib.Core.Path.{_≡_};
 ghost use Prim.Native.Nat.{ℕ, _+_, _<_, _≤_};
 ghost use mathlib.Core.List.{[]};
 ghost use lib.ListN.{length, getD, drop};
-ghost use Rattle.record_bytes.specs.Layout.{piecesOf};
-ghost use Rattle.record_bytes.specs.Places.{recordLength, ownPlace};
+ghost use Rattle.record_bytes.specs.Layout.{piecesOf, limitsAt};
+ghost use Rattle.record_bytes.specs.Places.{recordLength, ownPlace, lastPlace};
 ghost use Rattle.lent_record.specs.Ready.{readyIn};
 ghost use Rattle.lent_record.specs.Judged.{openReady, twoReady, piecesReady};
 use super::search::any_holds;
 use frame::Address;
+use progress::wait::IdleLimits;
 use receiver::Receiver;
+use record_bytes::places::FIRST_LIMIT_AT;
 use record_bytes::places::HEAD_BYTES;
 use record_bytes::places::KIND_AT;
-use record_bytes::places::LIMIT_AT;
 use record_bytes::places::OWN_AT;
 use record_bytes::places::RECORD_BYTES;
+use record_bytes::places::SECOND_LIMIT_AT;
 use record_bytes::places::SLOT_BYTES;
+use record_bytes::places::WAIT_AT;
 use record_bytes::slot::codes_ok;
 use record_bytes::slot::session_at;
-use slots::bounds::opening_ok;
 use slots::bounds::session_ok;
+use slots::bounds::values_ok;
 use words::word_at;
 
 // The own address. What is lent are bytes: each is below 256.
@@ -30,13 +33,24 @@ pub fn own_of(bytes: &[u8]) -> Address
     Address(bytes[OWN_AT])
 }
 
-// Whether slot i, which is not free, begins with codes, is in bounds, and has no twin after it.
+// Both idle limits.
+pub fn limits_of(bytes: &[u8]) -> IdleLimits
+    requires { ⌜ lastPlace ≤ length (now bytes) ⌝ }
+    ensures { λ r. ⌜ r ≡ limitsAt (now (bytes .entry)) ⌝ }
+{
+    IdleLimits {
+        first: word_at(bytes, FIRST_LIMIT_AT),
+        second: word_at(bytes, SECOND_LIMIT_AT),
+    }
+}
+
+// Whether slot i, which is not free, has codes, is in bounds, and has no twin after it.
 fn open_ready(bytes: &[u8], i: usize, own: Address) -> bool
     requires { ⌜ (length (now bytes) ≡ recordLength) × (i < 8) ⌝ }
     ensures { λ r. ⌜ r ≡ openReady own (getD (piecesOf (now (bytes .entry))) i []) (drop (i + 1) (piecesOf (now (bytes .entry)))) ⌝ }
 {
     let at = HEAD_BYTES + SLOT_BYTES * i;
-    if !codes_ok(bytes[at], bytes[at + KIND_AT]) {
+    if !codes_ok(bytes[at], bytes[at + KIND_AT], bytes[at + WAIT_AT]) {
         return false;
     }
     let end = at + SLOT_BYTES;
@@ -92,7 +106,7 @@ pub fn is_ready(bytes: &[u8], store: usize) -> bool
         return false;
     }
     let own = Address(bytes[OWN_AT]);
-    if !opening_ok(own, word_at(bytes, LIMIT_AT)) {
+    if !values_ok(own, limits_of(bytes)) {
         return false;
     }
     slots_ready(bytes, own)

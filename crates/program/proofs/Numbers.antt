@@ -9,6 +9,7 @@ use lib.Dec.{eqb, leb, ltb}
 use lib.ListN.{length, getD, take, drop, replicate, length-take}
 use lib.Seq.{paste}
 use borrow.Author.Tests.{eqb-true, leb-true, ltb-false}
+use Rattle.progress.specs.declared.wait.IdleLimits.{IdleLimits}
 use Rattle.laws.specs.Choice.{each-of}
 use Rattle.frame.specs.declared.Address.{Address}
 use Rattle.frame.specs.declared.refusal.Refusal.{Refusal}
@@ -49,8 +50,8 @@ use Rattle.session.specs.declared.segment.Judged.{Judged}
 use Rattle.session.specs.declared.segment.Judged.the-variants as judgement
 use Rattle.session.specs.Announcements.{misdirected, formOf, firstCts}
 use Rattle.session.specs.Segments.{dueOf, judgedOf, nextCts}
-use Rattle.session.specs.Ends.{statusMatches, isIdle}
-use Rattle.session.specs.Decisions.{stays, ended, ifOpen, rejection, acceptedIf, isRestart, forKey, onForm, announcedTo, onJudged, segmentOpen, segmentTo, messageOf, statusTo, abortTo, endingOf}
+use Rattle.session.specs.Ends.{statusMatches}
+use Rattle.session.specs.Decisions.{stays, ended, ifOpen, rejection, acceptedIf, isRestart, forKey, onForm, announcedTo, onJudged, segmentOpen, segmentTo, messageOf, statusTo, abortTo, endingOf, isSilent}
 use Rattle.session.specs.Bounds.{stateOk, sessionOk}
 use Rattle.session.specs.InBounds.{sound-of}
 use Rattle.session.specs.Fits.{Small}
@@ -58,7 +59,7 @@ use Rattle.slots.specs.declared.Slot.{Slot}
 use Rattle.slots.specs.declared.Found.{Found}
 use Rattle.slots.specs.declared.Found.the-variants.{At, Nothing}
 use Rattle.slots.specs.Slots.{slotFor, stateIn, isAt, freeSlot}
-use Rattle.slots.specs.Bounds.{openingOk, slotOk, twinOf, slotsOk}
+use Rattle.slots.specs.Bounds.{valuesOk, slotOk, twinOf, slotsOk}
 use Rattle.receiver.specs.declared.Receiver.{Receiver}
 use Rattle.receiver.specs.Bounds.{inBounds}
 use Rattle.receiver.specs.Calls as calls
@@ -135,8 +136,8 @@ slots-keys own (s ∷ ss) h e =
 record-keys : (r : Receiver) → inBounds r ≡ true → SlotsKeys (r .slots)
 unfolding inBounds
 record-keys r e =
-    let o = and-elim-left (openingOk (r .own) (r .limit)) (slotsOk (r .own) (r .slots)) e in
-    slots-keys (r .own) (r .slots) (own-small (r .own) (r .limit) o) (and-elim-right (openingOk (r .own) (r .limit)) (slotsOk (r .own) (r .slots)) e)
+    let o = and-elim-left (valuesOk (r .own) (r .limits)) (slotsOk (r .own) (r .slots)) e in
+    slots-keys (r .own) (r .slots) (own-small (r .own) (r .limits) o) (and-elim-right (valuesOk (r .own) (r .limits)) (slotsOk (r .own) (r .slots)) e)
 
 keys-at : (l : List Slot) (i : ℕ) → SlotsKeys l → StateKeys (getD l i freeSlot .state)
 keys-at [] i h = tt
@@ -251,17 +252,17 @@ frame-small r e id d m = go (isReady r m)
 
 -- ---- a reading
 
-ends-small : (limit t : ℕ) (l : List Slot) → SlotsKeys l → EndsSmall (map (slotEnd limit t) l)
-ends-small limit t [] h = tt
-ends-small limit t (x ∷ l) (h, hs) = (go (x .state) h, ends-small limit t l hs)
+ends-small : (limits : IdleLimits) (t : ℕ) (l : List Slot) → SlotsKeys l → EndsSmall (map (slotEnd limits t) l)
+ends-small limits t [] h = tt
+ends-small limits t (x ∷ l) (h, hs) = (go (x .state) h, ends-small limits t l hs)
   where
     by : (s : Session) → KeySmall (s .announced .key) → (b : Bool) → EndSmall (cond b (end.Ended (endingOf s Silence)) end.Stays)
     by s k true = k
     by s k false = tt
 
-    go : (st : State) → StateKeys st → EndSmall (slotEnd limit t (record { state = st }) .end)
+    go : (st : State) → StateKeys st → EndSmall (slotEnd limits t (record { state = st }) .end)
     go Closed k = tt
-    go (Open s) k = by s k (isIdle limit (s .progress .mark) t)
+    go (Open s) k = by s k (isSilent limits t s)
 
 pub reading-small : (r : Receiver) → inBounds r ≡ true → (t : ℕ) (m : List ℕ) → EndsSmall (readingStep r t m .ends)
 unfolding readingStep
@@ -269,7 +270,7 @@ reading-small r e t m = go (isReady r m)
   where
     go : (b : Bool) → let x : Elapsed = cond b (readingKept r t) (record { next = r; answer = acceptance.Refused OutOfBounds; ends = replicate 8 calls.stays }) in
         EndsSmall (x .ends)
-    go true = ends-small (r .limit) t (r .slots) (record-keys r e)
+    go true = ends-small (r .limits) t (r .slots) (record-keys r e)
     go false = (tt, (tt, (tt, (tt, (tt, (tt, (tt, (tt, tt))))))))
 
 -- ---- bytes

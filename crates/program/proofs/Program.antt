@@ -34,7 +34,7 @@ use Rattle.isolation.specs.Observe.{recordAfter, storeAfter}
 use Rattle.isolation.proofs.Demand3.{opens-in-bounds}
 use Rattle.carried.proofs.Step.{HasRecord, Frames, frame-step, put-holds}
 use Rattle.carried.proofs.Run.{Fine, fine-fits, fine-after}
-use Rattle.run.specs.Lines.{Receives, theReceiver, Done, framed, elapsed, readBy, Turn, took, over, cut, bad, turnBy, turnAt, State, after, onTurn, linesFrom, linesIn, start, linesOf, own}
+use Rattle.run.specs.Lines.{Receives, theReceiver, Done, framed, elapsed, readBy, Turn, took, over, cut, bad, turnBy, turnAt, State, after, onTurn, linesFrom, linesIn, start, linesOf, own, limits}
 use Rattle.run.specs.Steps.{readInBytes, inBytes}
 use Rattle.run.specs.Goes.{turnIn, lying}
 use Rattle.run.specs.Cuts.{joined, Fed, cuts-agree}
@@ -157,13 +157,13 @@ same-lines d w (suc n) b r m k at h =
 -- ---- as the program opens it
 
 abbrev pub first : Receiver
-first = openedWith own 1250 0
+first = openedWith own limits 0
 
 opening-fine : Fine first (replicate 32768 0)
 unfolding opened
 opening-fine =
     record {
-      bounds = opens-in-bounds own 1250 0 refl;
+      bounds = opens-in-bounds own limits 0 refl;
       eight = refl;
       narrow = record { last = omega arith; slots = (tt, (tt, (tt, (tt, (tt, (tt, (tt, (tt, tt)))))))) };
       whole = length-replicate {A = ℕ} 32768 0;

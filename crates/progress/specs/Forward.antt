@@ -5,6 +5,7 @@ use lib.Dec.{eqb, ltb}
 use Rattle.transport.specs.Kinds.{isRts}
 use Rattle.progress.specs.declared.Announced.{Announced}
 use Rattle.progress.specs.declared.Progress.{Progress}
+use Rattle.progress.specs.Waits.{waitAfter}
 
 -- the smallest of MAX SGMTS, 16 and the segments left
 unfoldable pub grantOf : ℕ → ℕ → ℕ
@@ -25,4 +26,9 @@ grantedBy p a n = cond (ctsDue p a n) (n + nextCount a n) (p .granted .0)
 -- the progress after segment n was taken
 abbrev pub advancedBy : Progress → Announced → ℕ → ℕ → Progress
 advancedBy p a n last =
-    record { next = record { 0 = n + 1 }; granted = record { 0 = grantedBy p a n }; mark = last }
+    record {
+      next = record { 0 = n + 1 };
+      granted = record { 0 = grantedBy p a n };
+      mark = last;
+      wait = waitAfter (ctsDue p a n);
+    }

@@ -5,6 +5,7 @@ ghost use Rattle.progress.specs.Forward.{ctsDue, nextCount, grantedBy, a
 use super::Announced;
 use super::Progress;
 use super::grant::grant;
+use super::wait::wait_after;
 use frame::SegmentNumber;
 use frame::octet::wide;
 use transport::is_rts;
@@ -43,16 +44,18 @@ fn granted_after(p: Progress, a: Announced, n: SegmentNumber) -> u32
     }
 }
 
-// The progress after segment n: next, last granted and mark.
+// The progress after segment n: next, last granted, mark and wait.
 fn advance(p: Progress, a: Announced, n: SegmentNumber, last: u32) -> Progress
     requires { ⌜ n .0 < 16777216 ⌝ }
     ensures { λ r. ⌜ r ≡ advancedBy p a (n .0) last ⌝ }
 {
     let granted = granted_after(p, a, n);
+    let wait = wait_after(is_cts_due(p, a, n));
     Progress {
         next: SegmentNumber(n.0 + 1),
         granted: SegmentNumber(granted),
         mark: last,
+        wait: wait,
     }
 }
 

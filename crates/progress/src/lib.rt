@@ -1,11 +1,13 @@
 // A session in its two parts: what was announced, which stays, and how far it has come (01, "Announcement" and "Segment").
 pub mod forward;
 pub mod grant;
+pub mod wait;
 
 use frame::ByteCount;
 use frame::SegmentNumber;
 use transport::Key;
 use transport::Kind;
+use wait::Wait;
 
 // What was announced, with the key of the session.
 pub struct Announced {
@@ -25,4 +27,6 @@ pub struct Progress {
     pub granted: SegmentNumber,
     // the reading of the clock from which silence counts
     pub mark: u32,
+    // which limit that silence has
+    pub wait: Wait,
 }

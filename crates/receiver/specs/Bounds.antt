@@ -5,24 +5,25 @@ use lib.ListN.{replicate}
 use Rattle.frame.specs.declared.Address.{Address}
 use Rattle.frame.specs.declared.refusal.Refusal.the-variants.{OutOfBounds}
 use Rattle.slots.specs.Slots.{freeSlot}
-use Rattle.slots.specs.Bounds.{openingOk, slotsOk}
+use Rattle.progress.specs.declared.wait.IdleLimits.{IdleLimits}
+use Rattle.slots.specs.Bounds.{valuesOk, slotsOk}
 use Rattle.receiver.specs.declared.Receiver.{Receiver}
 use Rattle.receiver.specs.declared.Opened.{Opened}
 use Rattle.answer.specs.declared.Acceptance.the-variants.{Accepted, Refused}
 
 unfoldable pub inBounds : Receiver → Bool
-inBounds r = openingOk (r .own) (r .limit) && slotsOk (r .own) (r .slots)
+inBounds r = valuesOk (r .own) (r .limits) && slotsOk (r .own) (r .slots)
 
 -- ---- the opening
 
 -- no slot open; an opening out of bounds keeps its values, so that every call refuses the record
-abbrev pub openedWith : Address → ℕ → ℕ → Receiver
-openedWith own limit reading =
-    record { own = own; limit = limit; last = reading; slots = replicate 8 freeSlot }
+abbrev pub openedWith : Address → IdleLimits → ℕ → Receiver
+openedWith own limits reading =
+    record { own = own; limits = limits; last = reading; slots = replicate 8 freeSlot }
 
-unfoldable pub opened : Address → ℕ → ℕ → Opened
-opened own limit reading =
+unfoldable pub opened : Address → IdleLimits → ℕ → Opened
+opened own limits reading =
     record {
-      receiver = openedWith own limit reading;
-      answer = cond (openingOk own limit) Accepted (Refused OutOfBounds);
+      receiver = openedWith own limits reading;
+      answer = cond (valuesOk own limits) Accepted (Refused OutOfBounds);
     }

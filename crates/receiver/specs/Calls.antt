@@ -32,6 +32,7 @@ use Rattle.answer.specs.declared.End.{End}
 use Rattle.answer.specs.declared.End.the-variants as end
 use Rattle.answer.specs.declared.SlotEnd.{SlotEnd}
 use Rattle.progress.specs.declared.Progress.{Progress}
+use Rattle.progress.specs.declared.wait.IdleLimits.{IdleLimits}
 use Rattle.session.specs.declared.Session.{Session}
 use Rattle.session.specs.declared.State.{State}
 use Rattle.session.specs.declared.State.the-variants.{Closed, Open}
@@ -66,7 +67,7 @@ refused r n = answered r (Refused n)
 
 abbrev pub withSlot : Receiver → ℕ → State → Receiver
 withSlot r i st =
-    record { own = r .own; limit = r .limit; last = r .last; slots = set (r .slots) i (record { state = st }) }
+    record { own = r .own; limits = r .limits; last = r .last; slots = set (r .slots) i (record { state = st }) }
 
 -- ---- a change, applied to the slot that was found
 
@@ -169,18 +170,18 @@ abbrev pub afterEnd : End → State → State
 afterEnd end.Stays x = x
 afterEnd (end.Ended e) x = after x Ends
 
-abbrev pub endOf : ℕ → ℕ → State → End
-endOf limit t Closed = end.Stays
-endOf limit t (Open s) = endAt limit t s
+abbrev pub endOf : IdleLimits → ℕ → State → End
+endOf limits t Closed = end.Stays
+endOf limits t (Open s) = endAt limits t s
 
-abbrev pub expiredState : ℕ → ℕ → State → State
-expiredState limit t x = afterEnd (endOf limit t x) x
+abbrev pub expiredState : IdleLimits → ℕ → State → State
+expiredState limits t x = afterEnd (endOf limits t x) x
 
-abbrev pub expired : ℕ → ℕ → Slot → Slot
-expired limit t s = record { state = expiredState limit t (s .state) }
+abbrev pub expired : IdleLimits → ℕ → Slot → Slot
+expired limits t s = record { state = expiredState limits t (s .state) }
 
-abbrev pub slotEnd : ℕ → ℕ → Slot → SlotEnd
-slotEnd limit t s = record { end = endOf limit t (s .state) }
+abbrev pub slotEnd : IdleLimits → ℕ → Slot → SlotEnd
+slotEnd limits t s = record { end = endOf limits t (s .state) }
 
 abbrev pub stays : SlotEnd
 stays = record { end = end.Stays }
@@ -189,9 +190,9 @@ stays = record { end = end.Stays }
 abbrev pub readingKept : Receiver → ℕ → Elapsed
 readingKept r t =
     record {
-      next = record { own = r .own; limit = r .limit; last = t; slots = map (expired (r .limit) t) (r .slots) };
+      next = record { own = r .own; limits = r .limits; last = t; slots = map (expired (r .limits) t) (r .slots) };
       answer = acceptance.Accepted;
-      ends = map (slotEnd (r .limit) t) (r .slots);
+      ends = map (slotEnd (r .limits) t) (r .slots);
     }
 
 -- of the store a reading looks only at the length

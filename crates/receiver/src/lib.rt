@@ -6,6 +6,7 @@ use answer::Acceptance;
 use frame::Address;
 use frame::refusal::Refusal;
 use progress::grant;
+use progress::wait::IdleLimits;
 use session::State;
 use slots::Slot;
 use slots::bounds;
@@ -13,8 +14,7 @@ use slots::bounds;
 // The opening values, the last reading, and the slots.
 pub struct Receiver {
     pub own: Address,
-    // the idle limit in milliseconds
-    pub limit: u32,
+    pub limits: IdleLimits,
     pub last: u32,
     pub slots: [Slot; 8],
 }
@@ -32,19 +32,19 @@ impl Receiver {
     // the most segments that one CTS grants
     pub const GRANT: u32 = grant::GRANT;
 
-    // A receiver with no slot open; refused with 23 unless own is 0 to 253 and limit 1 to 60,000.
-    pub fn open(own: Address, limit: u32, reading: u32) -> Opened
-        ensures { λ r. ⌜ r ≡ opened own limit reading ⌝ }
+    // A receiver with no slot open; refused with 23 unless own is 0 to 253 and each limit 1 to 60,000.
+    pub fn open(own: Address, limits: IdleLimits, reading: u32) -> Opened
+        ensures { λ r. ⌜ r ≡ opened own limits reading ⌝ }
     {
         let receiver = Receiver {
             own: own,
-            limit: limit,
+            limits: limits,
             last: reading,
             slots: [Slot {
                 state: State::Closed,
             }; 8],
         };
-        if bounds::opening_ok(own, limit) {
+        if bounds::values_ok(own, limits) {
             return Opened {
                 receiver: receiver,
                 answer: Acceptance::Accepted,

@@ -5,12 +5,14 @@ use mathlib.Core.Path.{_≡_, refl, sym, ap, _∙_}
 use mathlib.Core.Bool.{Bool, true, false, cond, _&&_, _||_, false≢true}
 use mathlib.Core.List.{List, [], _∷_, _++_, map}
 use lib.Dec.{eqb}
+use mathlib.Mathlib.Data.Bool.Basic.{and-elim-left, and-elim-right}
 use lib.ListN.{length, getD, set, take, drop, length-drop, take-append-drop, List·getD-map}
 use lib.Seq.{paste, drop-cons, getD-drop, take-all, take-take, take-append-le, drop-at, length-take-le}
 use borrow.Author.Tests.{eqb-true}
 use Rattle.laws.specs.Bools.{guard-passed}
 use Rattle.laws.specs.Pastes.{paste-behind, paste-rest}
 use Rattle.transport.specs.declared.Kind.the-variants.{Rts, Bam}
+use Rattle.progress.specs.declared.wait.Wait.the-variants.{First, Second}
 use Rattle.progress.specs.declared.Progress.{Progress}
 use Rattle.session.specs.declared.Session.{Session}
 use Rattle.slots.specs.declared.Slot.{Slot}
@@ -19,8 +21,8 @@ use Rattle.session.specs.declared.State.the-variants.{Closed, Open}
 use Rattle.slots.specs.Slots.{freeSlot, isFree}
 use Rattle.receiver.specs.Calls.{withSlot}
 use Rattle.record_bytes.specs.Places.{headLength, slotLength, announcedLength, progressLength, slotPlace, progressPlace}
-use Rattle.record_bytes.specs.Places.{limitPlace, lastPlace, statePlace, kindPlace, totalPlace, segmentsPlace, pgnPlace, nextPlace, grantedPlace, markPlace}
-use Rattle.record_bytes.specs.Layout.{kindByte, kindAt, progressBytes, sessionBytes, sessionAt, slotBytes, codesOk, slotAt, headBytes, pieces, piecesOf, codesAll, slotsAt, isRecord, recordAt}
+use Rattle.record_bytes.specs.Places.{firstLimitPlace, secondLimitPlace, lastPlace, statePlace, kindPlace, totalPlace, segmentsPlace, pgnPlace, nextPlace, grantedPlace, markPlace, waitPlace}
+use Rattle.record_bytes.specs.Layout.{kindByte, kindAt, waitByte, waitAt, progressBytes, sessionBytes, sessionAt, slotBytes, isCode, codesOk, codesIn, slotAt, headBytes, pieces, piecesOf, codesAll, slotsAt, isRecord, recordAt}
 use Rattle.words.specs.Words.{low4, low32}
 use Rattle.words.specs.Laws.{both, same-byte, low4-bytes}
 use Rattle.record_bytes.specs.Pieces.{length-slot, length-pieces, piece-of, record-long, record-codes}
@@ -83,25 +85,35 @@ four p at h e =
 pub record Good (p : List ℕ) : Type 0 where
   pub long : length p ≡ slotLength
   pub bytes : Bytes p
-  pub codes : codesOk (getD p statePlace 0) (getD p kindPlace 0) ≡ true
+  pub codes : codesIn p ≡ true
 
-kind-of : (n : ℕ) (t : Bool) → eqb n 2 ≡ t → (eqb n 1 || eqb n 2) ≡ true → n ≡ kindByte (kindAt n)
-kind-of n true e h = eqb-true n 2 e ∙ ap (λ (t : Bool). kindByte (cond t Bam Rts)) (sym e)
-kind-of n false e h = one (eqb n 1) refl
+-- a code is the byte of what it is read as
+code-of : (byte : Bool → ℕ) → byte true ≡ 2 → byte false ≡ 1 → (n : ℕ) → isCode n ≡ true → n ≡ byte (eqb n 2)
+code-of byte two one n h = by (eqb n 2) refl
   where
-    one : (u : Bool) → eqb n 1 ≡ u → n ≡ kindByte (kindAt n)
-    one true q = eqb-true n 1 q ∙ ap (λ (t : Bool). kindByte (cond t Bam Rts)) (sym e)
-    one false q = absurd (false≢true (sym e ∙ sym (ap (λ (t : Bool). t || eqb n 2) q) ∙ h))
+    by : (t : Bool) → eqb n 2 ≡ t → n ≡ byte t
+    by true e = eqb-true n 2 e ∙ sym two
+    by false e = go (eqb n 1) refl
+      where
+        go : (u : Bool) → eqb n 1 ≡ u → n ≡ byte false
+        go true q = eqb-true n 1 q ∙ sym one
+        go false q = absurd (false≢true (sym e ∙ sym (ap (λ (t : Bool). t || eqb n 2) q) ∙ h))
+
+kind-of : (n : ℕ) → isCode n ≡ true → n ≡ kindByte (kindAt n)
+kind-of = code-of (λ (t : Bool). kindByte (cond t Bam Rts)) refl refl
+
+wait-of : (n : ℕ) → isCode n ≡ true → n ≡ waitByte (waitAt n)
+wait-of = code-of (λ (t : Bool). waitByte (cond t Second First)) refl refl
 
 -- an open slot's piece is the bytes of its session
 session-spelled : (p : List ℕ) → length p ≡ slotLength → Bytes p → getD p statePlace 0 ≡ 1
-    → getD p kindPlace 0 ≡ kindByte (kindAt (getD p kindPlace 0)) → p ≡ sessionBytes (sessionAt p)
+    → isCode (getD p kindPlace 0) ≡ true → isCode (getD p waitPlace 0) ≡ true → p ≡ sessionBytes (sessionAt p)
 unfolding sessionBytes
-session-spelled p long h e k =
+session-spelled p long h e k w =
     sym (take-all slotLength p (omega arith))
     ∙ spelled slotLength 0 p (omega arith)
     ∙ both e
-    (both k
+    (both (kind-of _ k)
     (same-byte _
     (same-byte _
     (same-byte _
@@ -111,19 +123,19 @@ session-spelled p long h e k =
     (four p pgnPlace h
     (four p nextPlace h
     (four p grantedPlace h
-    (four p markPlace h refl)))))))))))
+    (four p markPlace h (both (wait-of _ w) refl))))))))))))
 
--- what the codes of a piece leave: open with a kind, or free
-codes-open : (x k : ℕ) (u : Bool) → eqb x 0 ≡ u → eqb x 1 ≡ true → codesOk x k ≡ true → (eqb k 1 || eqb k 2) ≡ true
-codes-open x k true q e h =
+-- what the codes of a piece leave: open with a kind and a wait, or free
+codes-open : (x k w : ℕ) (u : Bool) → eqb x 0 ≡ u → eqb x 1 ≡ true → codesOk x k w ≡ true → (isCode k && isCode w) ≡ true
+codes-open x k w true q e h =
     absurd (let a : x ≡ 1 = eqb-true x 1 e in let b : x ≡ 0 = eqb-true x 0 q in omega arith)
-codes-open x k false q e h =
-    sym (ap (λ (u : Bool). u || (eqb x 1 && (eqb k 1 || eqb k 2))) q ∙ ap (λ (u : Bool). u && (eqb k 1 || eqb k 2)) e) ∙ h
+codes-open x k w false q e h =
+    sym (ap (λ (u : Bool). u || (eqb x 1 && (isCode k && isCode w))) q ∙ ap (λ (u : Bool). u && (isCode k && isCode w)) e) ∙ h
 
-codes-free : (x k : ℕ) (u : Bool) → eqb x 0 ≡ u → eqb x 1 ≡ false → codesOk x k ≡ true → u ≡ true
-codes-free x k true q e h = refl
-codes-free x k false q e h =
-    sym (ap (λ (u : Bool). u || (eqb x 1 && (eqb k 1 || eqb k 2))) q ∙ ap (λ (u : Bool). u && (eqb k 1 || eqb k 2)) e) ∙ h
+codes-free : (x k w : ℕ) (u : Bool) → eqb x 0 ≡ u → eqb x 1 ≡ false → codesOk x k w ≡ true → u ≡ true
+codes-free x k w true q e h = refl
+codes-free x k w false q e h =
+    sym (ap (λ (u : Bool). u || (eqb x 1 && (isCode k && isCode w))) q ∙ ap (λ (u : Bool). u && (isCode k && isCode w)) e) ∙ h
 
 module _ (p : List ℕ) (g : Good p) where
   -- the slot by its state code
@@ -132,11 +144,13 @@ module _ (p : List ℕ) (g : Good p) where
 
   kept-by : (t : Bool) → eqb (getD p statePlace 0) 1 ≡ t → kept p (slotBy t) ≡ p
   kept-by true e =
-      let k : (eqb (getD p kindPlace 0) 1 || eqb (getD p kindPlace 0) 2) ≡ true =
-      codes-open (getD p statePlace 0) (getD p kindPlace 0) (eqb (getD p statePlace 0) 0) refl e (g .codes) in
-      sym (session-spelled p (g .long) (g .bytes) (eqb-true _ _ e) (kind-of (getD p kindPlace 0) (eqb (getD p kindPlace 0) 2) refl k))
+      let k : Bool = isCode (getD p kindPlace 0) in
+      let w : Bool = isCode (getD p waitPlace 0) in
+      let c : (k && w) ≡ true =
+      codes-open (getD p statePlace 0) (getD p kindPlace 0) (getD p waitPlace 0) (eqb (getD p statePlace 0) 0) refl e (g .codes) in
+      sym (session-spelled p (g .long) (g .bytes) (eqb-true _ _ e) (and-elim-left k w c) (and-elim-right k w c))
   kept-by false e =
-      ap (λ (t : Bool). cond t p (slotBytes (slotBy false))) (codes-free (getD p statePlace 0) (getD p kindPlace 0) (eqb (getD p statePlace 0) 0) refl e (g .codes))
+      ap (λ (t : Bool). cond t p (slotBytes (slotBy false))) (codes-free (getD p statePlace 0) (getD p kindPlace 0) (getD p waitPlace 0) (eqb (getD p statePlace 0) 0) refl e (g .codes))
 
   -- a slot that is put back as it was read keeps its piece
   pub kept-same : kept p (slotAt p) ≡ p
@@ -171,7 +185,7 @@ all-good : (n : ℕ) (b : List ℕ) → length b ≡ slotLength * n → Bytes b 
 unfolding pieces codesAll
 all-good zero b e h c = tt
 all-good (suc n) b e h c =
-    let (p, q) = guard-passed (codesOk (getD (take slotLength b) statePlace 0) (getD (take slotLength b) kindPlace 0)) (codesAll (pieces n (drop slotLength b))) c in (
+    let (p, q) = guard-passed (codesIn (take slotLength b)) (codesAll (pieces n (drop slotLength b))) c in (
       record { long = length-take-le slotLength b (omega arith); bytes = bytes-take slotLength b h; codes = p },
       all-good n (drop slotLength b) (length-drop slotLength b ∙ omega arith) (bytes-drop slotLength b h) q,
     )
@@ -211,7 +225,7 @@ module _ (b : List ℕ) (h : Bytes b) (r : isRecord b ≡ true) where
   head-same : headBytes (recordAt b) ≡ take headLength b
   unfolding headBytes
   head-same =
-      sym (spelled headLength 0 b (omega (arith, record-long b r)) ∙ same-byte _ (four b limitPlace h (four b lastPlace h refl)))
+      sym (spelled headLength 0 b (omega (arith, record-long b r)) ∙ same-byte _ (four b firstLimitPlace h (four b secondLimitPlace h (four b lastPlace h refl))))
 
   -- a record put back as it was read changes no byte
   pub keep : putIn b (recordAt b) ≡ b
@@ -236,18 +250,18 @@ module _ (b : List ℕ) (h : Bytes b) (r : isRecord b ≡ true) where
   -- other slots over their pieces, and another last reading in its four bytes
   pub put-elapsed : (last : ℕ) (ss : List Slot)
       → paste (take headLength b ++ merged (piecesOf b) ss) lastPlace (low4 last []) 4
-      ≡ putIn b (record { own = recordAt b .own; limit = recordAt b .limit; last = last; slots = ss })
+      ≡ putIn b (record { own = recordAt b .own; limits = recordAt b .limits; last = last; slots = ss })
   unfolding putIn headBytes
   put-elapsed last ss =
       let M : List ℕ = merged (piecesOf b) ss in
-      let nine : length (take headLength b) ≡ headLength = length-take-le headLength b (omega (arith, record-long b r)) in
+      let whole : length (take headLength b) ≡ headLength = length-take-le headLength b (omega (arith, record-long b r)) in
       ap (λ (l : List ℕ). l ++ low4 last [] ++ drop headLength (take headLength b ++ M))
       (take-append-le lastPlace (take headLength b) M (omega arith)
       ∙ take-take lastPlace headLength b (omega arith)
       ∙ spelled lastPlace 0 b (omega (arith, record-long b r))
-      ∙ same-byte _ (four b limitPlace h refl))
-      ∙ ap (λ (l : List ℕ). headBytes (record { own = recordAt b .own; limit = recordAt b .limit; last = last; slots = ss }) ++ l)
-      (drop-at (take headLength b) M headLength nine)
+      ∙ same-byte _ (four b firstLimitPlace h (four b secondLimitPlace h refl)))
+      ∙ ap (λ (l : List ℕ). headBytes (record { own = recordAt b .own; limits = recordAt b .limits; last = last; slots = ss }) ++ l)
+      (drop-at (take headLength b) M headLength whole)
 
 -- ---- one slot
 

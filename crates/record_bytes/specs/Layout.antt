@@ -1,4 +1,4 @@
--- The record as bytes of a fixed layout: own address, idle limit and last reading, then eight slots (01, "Life of a session").
+-- The record as bytes of a fixed layout: own address, both idle limits and last reading, then eight slots (01, "Life of a session").
 -- Numbers of 32 bits have their low byte first.
 use Prim.Native.Nat.{ℕ, zero, suc, _+_, _*_, _/_, _%_}
 use mathlib.Core.Bool.{Bool, true, false, cond, not, _&&_, _||_}
@@ -10,13 +10,16 @@ use Rattle.transport.specs.declared.Kind.{Kind}
 use Rattle.transport.specs.declared.Kind.the-variants.{Rts, Bam}
 use Rattle.progress.specs.declared.Announced.{Announced}
 use Rattle.progress.specs.declared.Progress.{Progress}
+use Rattle.progress.specs.declared.wait.Wait.{Wait}
+use Rattle.progress.specs.declared.wait.Wait.the-variants.{First, Second}
+use Rattle.progress.specs.declared.wait.IdleLimits.{IdleLimits}
 use Rattle.session.specs.declared.Session.{Session}
 use Rattle.slots.specs.declared.Slot.{Slot}
 use Rattle.session.specs.declared.State.{State}
 use Rattle.session.specs.declared.State.the-variants.{Closed, Open}
 use Rattle.receiver.specs.declared.Receiver.{Receiver}
-use Rattle.record_bytes.specs.Places.{recordLength, headLength, slotLength, ownPlace, limitPlace, lastPlace}
-use Rattle.record_bytes.specs.Places.{statePlace, kindPlace, saPlace, daPlace, sessionPlace, totalPlace, segmentsPlace, maxPlace, pgnPlace, nextPlace, grantedPlace, markPlace}
+use Rattle.record_bytes.specs.Places.{recordLength, headLength, slotLength, ownPlace, firstLimitPlace, secondLimitPlace, lastPlace}
+use Rattle.record_bytes.specs.Places.{statePlace, kindPlace, saPlace, daPlace, sessionPlace, totalPlace, segmentsPlace, maxPlace, pgnPlace, nextPlace, grantedPlace, markPlace, waitPlace}
 
 -- ---- a slot
 
@@ -28,6 +31,14 @@ kindByte Bam = 2
 abbrev pub kindAt : ℕ → Kind
 kindAt n = cond (eqb n 2) Bam Rts
 
+-- which silence the session is in: 1 the first, 2 the second
+abbrev pub waitByte : Wait → ℕ
+waitByte First = 1
+waitByte Second = 2
+
+abbrev pub waitAt : ℕ → Wait
+waitAt n = cond (eqb n 2) Second First
+
 -- open: 1, kind, SA, DA, session number, Total Bytes, segments, MAX SGMTS, PGN
 abbrev pub announcedBytes : Announced → List ℕ
 announcedBytes a =
@@ -38,9 +49,9 @@ announcedBytes a =
     ∷ a .key .session .0
     ∷ low4 (a .total .0) (low4 (a .segments .0) (a .max ∷ low4 (a .pgn) []))
 
--- what each segment brings forward: next segment, last granted, mark
+-- what each segment brings forward: next segment, last granted, mark, wait
 abbrev pub progressBytes : Progress → List ℕ
-progressBytes p = low4 (p .next .0) (low4 (p .granted .0) (low4 (p .mark) []))
+progressBytes p = low4 (p .next .0) (low4 (p .granted .0) (low4 (p .mark) (waitByte (p .wait) ∷ [])))
 
 unfoldable pub sessionBytes : Session → List ℕ
 sessionBytes s = announcedBytes (s .announced) ++ progressBytes (s .progress)
@@ -66,6 +77,7 @@ progressAt b =
       next = record { 0 = low32 b nextPlace };
       granted = record { 0 = low32 b grantedPlace };
       mark = low32 b markPlace;
+      wait = waitAt (getD b waitPlace 0);
     }
 
 abbrev pub sessionAt : List ℕ → Session
@@ -79,9 +91,16 @@ stateBytes (Open s) = sessionBytes s
 abbrev pub slotBytes : Slot → List ℕ
 slotBytes s = stateBytes (s .state)
 
--- Whether the first two bytes are codes: 0 free, with whatever follows; 1 open, and then a kind.
-abbrev pub codesOk : ℕ → ℕ → Bool
-codesOk state kind = eqb state 0 || (eqb state 1 && (eqb kind 1 || eqb kind 2))
+-- a kind, and a wait, is 1 or 2
+abbrev pub isCode : ℕ → Bool
+isCode n = eqb n 1 || eqb n 2
+
+-- Whether state, kind and wait are codes: 0 free, with whatever follows; 1 open, and then the others too.
+abbrev pub codesOk : ℕ → ℕ → ℕ → Bool
+codesOk state kind wait = eqb state 0 || (eqb state 1 && (isCode kind && isCode wait))
+
+abbrev pub codesIn : List ℕ → Bool
+codesIn p = codesOk (getD p statePlace 0) (getD p kindPlace 0) (getD p waitPlace 0)
 
 abbrev pub slotAt : List ℕ → Slot
 slotAt b = record { state = cond (eqb (getD b statePlace 0) 1) (Open (sessionAt b)) Closed }
@@ -89,7 +108,7 @@ slotAt b = record { state = cond (eqb (getD b statePlace 0) 1) (Open (sessionAt 
 -- ---- the record: its head, and the slots
 
 unfoldable pub headBytes : Receiver → List ℕ
-headBytes r = r .own .0 ∷ low4 (r .limit) (low4 (r .last) [])
+headBytes r = r .own .0 ∷ low4 (r .limits .first) (low4 (r .limits .second) (low4 (r .last) []))
 
 unfoldable pub slotsBytes : List Slot → List ℕ
 slotsBytes [] = []
@@ -116,15 +135,18 @@ piecesOf b = pieces 8 (drop headLength b)
 
 unfoldable pub codesAll : List (List ℕ) → Bool
 codesAll [] = true
-codesAll (p ∷ ps) = cond (not (codesOk (getD p statePlace 0) (getD p kindPlace 0))) false (codesAll ps)
+codesAll (p ∷ ps) = cond (not (codesIn p)) false (codesAll ps)
 
 abbrev pub slotsAt : List ℕ → List Slot
 slotsAt b = map slotAt (piecesOf b)
 
--- A buffer is a record if it has a record's length and each slot begins with codes.
+-- A buffer is a record if it has a record's length and each slot has codes.
 unfoldable pub isRecord : List ℕ → Bool
 isRecord b = cond (not (eqb (length b) recordLength)) false (codesAll (piecesOf b))
 
+abbrev pub limitsAt : List ℕ → IdleLimits
+limitsAt b = record { first = low32 b firstLimitPlace; second = low32 b secondLimitPlace }
+
 abbrev pub recordAt : List ℕ → Receiver
 recordAt b =
-    record { own = record { 0 = getD b ownPlace 0 }; limit = low32 b limitPlace; last = low32 b lastPlace; slots = slotsAt b }
+    record { own = record { 0 = getD b ownPlace 0 }; limits = limitsAt b; last = low32 b lastPlace; slots = slotsAt b }

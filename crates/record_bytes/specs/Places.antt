@@ -3,23 +3,26 @@ use Prim.Native.Nat.{ℕ, _+_, _*_}
 
 -- the record, its head, and a slot
 abbrev pub recordLength : ℕ
-recordLength = 249
+recordLength = 261
 
 abbrev pub headLength : ℕ
-headLength = 9
+headLength = 13
 
 abbrev pub slotLength : ℕ
-slotLength = 30
+slotLength = 31
 
--- in the head: own address, idle limit, last reading
+-- in the head: own address, both idle limits, last reading
 abbrev pub ownPlace : ℕ
 ownPlace = 0
 
-abbrev pub limitPlace : ℕ
-limitPlace = 1
+abbrev pub firstLimitPlace : ℕ
+firstLimitPlace = 1
+
+abbrev pub secondLimitPlace : ℕ
+secondLimitPlace = 5
 
 abbrev pub lastPlace : ℕ
-lastPlace = 5
+lastPlace = 9
 
 -- in a slot: the codes of its state and of its kind, then the rest of what was announced
 abbrev pub statePlace : ℕ
@@ -59,11 +62,14 @@ grantedPlace = 22
 abbrev pub markPlace : ℕ
 markPlace = 26
 
+abbrev pub waitPlace : ℕ
+waitPlace = 30
+
 abbrev pub announcedLength : ℕ
 announcedLength = nextPlace
 
 abbrev pub progressLength : ℕ
-progressLength = 12
+progressLength = 13
 
 -- slot i, and the progress of its session
 abbrev pub slotPlace : ℕ → ℕ

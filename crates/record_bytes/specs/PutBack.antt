@@ -14,12 +14,12 @@ use Rattle.session.specs.declared.State.{State}
 use Rattle.session.specs.declared.State.the-variants.{Closed, Open}
 use Rattle.slots.specs.Slots.{freeState}
 use Rattle.receiver.specs.declared.Receiver.{Receiver}
-use Rattle.record_bytes.specs.Places.{recordLength, headLength, slotLength, statePlace, kindPlace}
-use Rattle.record_bytes.specs.Layout.{sessionAt, stateBytes, slotBytes, slotAt, codesOk, headBytes, pieces, piecesOf, codesAll, isRecord, recordAt}
+use Rattle.record_bytes.specs.Places.{recordLength, headLength, slotLength, statePlace, kindPlace, waitPlace}
+use Rattle.record_bytes.specs.Layout.{sessionAt, stateBytes, slotBytes, slotAt, codesOk, codesIn, headBytes, pieces, piecesOf, codesAll, isRecord, recordAt}
 use Rattle.record_bytes.specs.Pieces.{length-slot, length-pieces}
 use Rattle.record_bytes.specs.Keeping.{kept, merged, putIn}
-use Rattle.record_bytes.specs.RoundTrip.{StateFits, SlotsFit, RecordFits, state-back, codes-state}
-use Rattle.words.specs.Laws.{fourBytes, low32-read-back}
+use Rattle.record_bytes.specs.RoundTrip.{StateFits, SlotsFit, RecordFits, state-back, codes-state, headed, head-back}
+use Rattle.words.specs.Laws.{fourBytes}
 
 -- ---- a slot
 
@@ -35,11 +35,11 @@ kept-by p Closed true e f =
 kept-by p (Open s) true e f = absurd (false≢true (sym e))
 
 code-by : (p : List ℕ) (st : State) (t : Bool) → t ≡ (freeState st && eqb (getD p statePlace 0) 0)
-    → codesOk (getD (cond t p (stateBytes st)) statePlace 0) (getD (cond t p (stateBytes st)) kindPlace 0) ≡ true
+    → codesIn (cond t p (stateBytes st)) ≡ true
 code-by p st false e = codes-state st
 code-by p Closed true e =
     let z : getD p statePlace 0 ≡ 0 = eqb-true _ _ (sym e) in
-    ap (λ (n : ℕ). codesOk n (getD p kindPlace 0)) z
+    ap (λ (n : ℕ). codesOk n (getD p kindPlace 0) (getD p waitPlace 0)) z
 code-by p (Open s) true e = absurd (false≢true (sym e))
 
 long-by : (p : List ℕ) (s : Slot) (t : Bool) → length p ≡ slotLength → length (cond t p (slotBytes s)) ≡ slotLength
@@ -135,7 +135,6 @@ module _ (b : List ℕ) (long : length b ≡ recordLength) (r : Receiver) (f : R
   pub put-read : recordAt (putIn b r) ≡ r
   unfolding putIn headBytes
   put-read =
-      let made : ℕ → ℕ → List Slot → Receiver = λ (n m : ℕ) (ss : List Slot). record { own = r .own; limit = n; last = m; slots = ss } in
-      ap (made (fourBytes (r .limit)) (fourBytes (r .last))) (ap (map slotAt) pieces-put ∙ slots-read (piecesOf b) (r .slots) both-eight (f .slots))
-      ∙ ap (λ (n : ℕ). made n (fourBytes (r .last)) (r .slots)) (low32-read-back (r .limit) (f .limit))
-      ∙ ap (λ (n : ℕ). made (r .limit) n (r .slots)) (low32-read-back (r .last) (f .last))
+      ap (headed r f (fourBytes (r .limits .first)) (fourBytes (r .limits .second)) (fourBytes (r .last)))
+      (ap (map slotAt) pieces-put ∙ slots-read (piecesOf b) (r .slots) both-eight (f .slots))
+      ∙ head-back r f

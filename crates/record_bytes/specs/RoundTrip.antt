@@ -2,25 +2,26 @@
 use Prim.Native.Nat.{ℕ, _+_, _*_, _/_, _%_, _<_}
 use native.Mathlib.Omega.{arith}
 use mathlib.Core.Path.{_≡_, refl, sym, ap, _∙_}
-use mathlib.Core.Bool.{Bool, true, false, cond, not, _||_}
+use mathlib.Core.Bool.{Bool, true, false, cond, not, _&&_}
 use mathlib.Core.List.{List, [], _∷_, map}
 use lib.Dec.{eqb}
-use lib.ListN.{length, getD, length-append}
+use lib.ListN.{length, length-append}
 use borrow.Author.Tests.{eq-eqb}
 use Rattle.laws.specs.Choice.{else}
 use Rattle.transport.specs.declared.Kind.{Kind}
 use Rattle.transport.specs.declared.Kind.the-variants.{Rts, Bam}
 use Rattle.progress.specs.declared.Announced.{Announced}
 use Rattle.progress.specs.declared.Progress.{Progress}
+use Rattle.progress.specs.declared.wait.Wait.{Wait}
+use Rattle.progress.specs.declared.wait.Wait.the-variants.{First, Second}
 use Rattle.session.specs.declared.Session.{Session}
 use Rattle.slots.specs.declared.Slot.{Slot}
 use Rattle.session.specs.declared.State.{State}
 use Rattle.session.specs.declared.State.the-variants.{Closed, Open}
 use Rattle.receiver.specs.declared.Receiver.{Receiver}
 use Rattle.words.specs.Laws.{fourBytes, low32-read-back}
-use Rattle.record_bytes.specs.Places.{recordLength, headLength, slotLength, statePlace, kindPlace}
-use Rattle.record_bytes.specs.Layout.{kindByte, kindAt, announcedAt, progressAt, sessionBytes, sessionAt, stateBytes, slotBytes, codesOk, slotAt, headBytes, slotsBytes, recordBytes, pieces, piecesOf, codesAll, isRecord, recordAt}
-use Rattle.words.specs.Words.{low4, low32}
+use Rattle.record_bytes.specs.Places.{recordLength, headLength, slotLength}
+use Rattle.record_bytes.specs.Layout.{kindByte, kindAt, waitByte, waitAt, announcedAt, progressAt, sessionBytes, sessionAt, stateBytes, slotBytes, isCode, codesIn, slotAt, headBytes, slotsBytes, recordBytes, pieces, piecesOf, codesAll, isRecord, recordAt}
 use Rattle.record_bytes.specs.Pieces.{length-slots, pieces-slots}
 
 -- The numbers are no larger than their places. (Addresses, session number and MAX SGMTS are a byte as they are.)
@@ -41,7 +42,8 @@ SlotsFit [] = Unit {0}
 SlotsFit (s ∷ ss) = StateFits (s .state) × SlotsFit ss
 
 pub record RecordFits (r : Receiver) : Type 0 where
-  pub limit : r .limit < 4294967296
+  pub first : r .limits .first < 4294967296
+  pub second : r .limits .second < 4294967296
   pub last : r .last < 4294967296
   pub eight : length (r .slots) ≡ 8
   pub slots : SlotsFit (r .slots)
@@ -49,6 +51,10 @@ pub record RecordFits (r : Receiver) : Type 0 where
 kind-back : (k : Kind) → kindAt (kindByte k) ≡ k
 kind-back Rts = refl
 kind-back Bam = refl
+
+wait-back : (w : Wait) → waitAt (waitByte w) ≡ w
+wait-back First = refl
+wait-back Second = refl
 
 announced-back : (s : Session) → SessionFits s → announcedAt (sessionBytes s) ≡ s .announced
 unfolding sessionBytes
@@ -66,12 +72,13 @@ progress-back : (s : Session) → SessionFits s → progressAt (sessionBytes s) 
 unfolding sessionBytes
 progress-back s f =
     let p : Progress = s .progress in
-    let made : ℕ → ℕ → ℕ → Progress =
-    λ (n g m : ℕ). record { next = record { 0 = n }; granted = record { 0 = g }; mark = m } in
+    let made : Wait → ℕ → ℕ → ℕ → Progress =
+    λ (w : Wait) (n g m : ℕ). record { next = record { 0 = n }; granted = record { 0 = g }; mark = m; wait = w } in
     let W : ℕ → ℕ = fourBytes in
-    ap (λ (x : ℕ). made x (W (p .granted .0)) (W (p .mark))) (low32-read-back (p .next .0) (f .next))
-    ∙ ap (λ (x : ℕ). made (p .next .0) x (W (p .mark))) (low32-read-back (p .granted .0) (f .granted))
-    ∙ ap (λ (x : ℕ). made (p .next .0) (p .granted .0) x) (low32-read-back (p .mark) (f .mark))
+    ap (λ (w : Wait). made w (W (p .next .0)) (W (p .granted .0)) (W (p .mark))) (wait-back (p .wait))
+    ∙ ap (λ (x : ℕ). made (p .wait) x (W (p .granted .0)) (W (p .mark))) (low32-read-back (p .next .0) (f .next))
+    ∙ ap (λ (x : ℕ). made (p .wait) (p .next .0) x (W (p .mark))) (low32-read-back (p .granted .0) (f .granted))
+    ∙ ap (λ (x : ℕ). made (p .wait) (p .next .0) (p .granted .0) x) (low32-read-back (p .mark) (f .mark))
 
 session-back : (s : Session) → SessionFits s → sessionAt (sessionBytes s) ≡ s
 session-back s f =
@@ -89,14 +96,16 @@ slots-back (s ∷ ss) (p, q) =
     ap (λ (x : Slot). x ∷ map slotAt (map slotBytes ss)) (state-back (s .state) p)
     ∙ ap (λ (l : List Slot). s ∷ l) (slots-back ss q)
 
-kind-code : (k : Kind) → (eqb (kindByte k) 1 || eqb (kindByte k) 2) ≡ true
-kind-code Rts = refl
-kind-code Bam = refl
+codes-of : (k : Kind) (w : Wait) → (isCode (kindByte k) && isCode (waitByte w)) ≡ true
+codes-of Rts First = refl
+codes-of Rts Second = refl
+codes-of Bam First = refl
+codes-of Bam Second = refl
 
-pub codes-state : (st : State) → codesOk (getD (stateBytes st) statePlace 0) (getD (stateBytes st) kindPlace 0) ≡ true
+pub codes-state : (st : State) → codesIn (stateBytes st) ≡ true
 unfolding sessionBytes
 codes-state Closed = refl
-codes-state (Open s) = kind-code (s .announced .kind)
+codes-state (Open s) = codes-of (s .announced .kind) (s .progress .wait)
 
 codes-slots : (ss : List Slot) → codesAll (map slotBytes ss) ≡ true
 unfolding codesAll
@@ -105,6 +114,17 @@ codes-slots (s ∷ ss) =
     ap (λ (t : Bool). cond (not t) false (codesAll (map slotBytes ss))) (codes-state (s .state)) ∙ codes-slots ss
 
 module _ (r : Receiver) (f : RecordFits r) where
+  -- a record of the same own address, with other numbers in its head
+  abbrev pub headed : ℕ → ℕ → ℕ → List Slot → Receiver
+  headed first second last ss =
+      record { own = r .own; limits = record { first = first; second = second }; last = last; slots = ss }
+
+  pub head-back : headed (fourBytes (r .limits .first)) (fourBytes (r .limits .second)) (fourBytes (r .last)) (r .slots) ≡ r
+  head-back =
+      ap (λ (n : ℕ). headed n (fourBytes (r .limits .second)) (fourBytes (r .last)) (r .slots)) (low32-read-back (r .limits .first) (f .first))
+      ∙ ap (λ (n : ℕ). headed (r .limits .first) n (fourBytes (r .last)) (r .slots)) (low32-read-back (r .limits .second) (f .second))
+      ∙ ap (λ (n : ℕ). headed (r .limits .first) (r .limits .second) n (r .slots)) (low32-read-back (r .last) (f .last))
+
   pub length-record : length (recordBytes r) ≡ recordLength
   unfolding headBytes
   length-record =
@@ -130,7 +150,5 @@ module _ (r : Receiver) (f : RecordFits r) where
   pub read-back : recordAt (recordBytes r) ≡ r
   unfolding headBytes
   read-back =
-      let made : ℕ → ℕ → List Slot → Receiver = λ (n m : ℕ) (ss : List Slot). record { own = r .own; limit = n; last = m; slots = ss } in
-      ap (made (fourBytes (r .limit)) (fourBytes (r .last))) (ap (map slotAt) pieces-record ∙ slots-back (r .slots) (f .slots))
-      ∙ ap (λ (n : ℕ). made n (fourBytes (r .last)) (r .slots)) (low32-read-back (r .limit) (f .limit))
-      ∙ ap (λ (n : ℕ). made (r .limit) n (r .slots)) (low32-read-back (r .last) (f .last))
+      ap (headed (fourBytes (r .limits .first)) (fourBytes (r .limits .second)) (fourBytes (r .last))) (ap (map slotAt) pieces-record ∙ slots-back (r .slots) (f .slots))
+      ∙ head-back

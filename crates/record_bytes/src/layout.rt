@@ -1,4 +1,4 @@
-// The record as bytes of a fixed layout in a lent buffer: own address, idle limit, last reading, then the eight slots.
+// The record as bytes of a fixed layout in a lent buffer: own address, both idle limits, last reading, then the eight slots.
 ghost use mathlib.Core.Path.{_≡_};
 ghost use lib.ListN.{length};
 ghost use Rattle.record_bytes.specs.Layout.{written, storedIn};

@@ -4,18 +4,20 @@ ghost use Prim.Native.Nat.{_≤_};
 ghost use Rattle.record_bytes.specs.Places.{slotPlace};
 
 // The record, its head, and a slot.
-pub const RECORD_BYTES: usize = 249;
+pub const RECORD_BYTES: usize = 261;
 
-pub const HEAD_BYTES: usize = 9;
+pub const HEAD_BYTES: usize = 13;
 
-pub const SLOT_BYTES: usize = 30;
+pub const SLOT_BYTES: usize = 31;
 
-// In the head: own address, idle limit, last reading.
+// In the head: own address, both idle limits, last reading.
 pub const OWN_AT: usize = 0;
 
-pub const LIMIT_AT: usize = 1;
+pub const FIRST_LIMIT_AT: usize = 1;
 
-pub const LAST_AT: usize = 5;
+pub const SECOND_LIMIT_AT: usize = 5;
+
+pub const LAST_AT: usize = 9;
 
 // In a slot: the codes of its state and of its kind, then the rest of what was announced.
 pub const STATE_AT: usize = 0;
@@ -42,6 +44,8 @@ pub const NEXT_AT: usize = 18;
 pub const GRANTED_AT: usize = 22;
 
 pub const MARK_AT: usize = 26;
+
+pub const WAIT_AT: usize = 30;
 
 // Where slot i is.
 pub fn slot_place(i: usize) -> usize

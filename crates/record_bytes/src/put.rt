@@ -7,19 +7,22 @@ ghost use lib.Seq.{paste};
 ghost use Rattle.record_bytes.specs.Layout.{announcedBytes, progressBytes, slotBytes, headBytes};
 ghost use Rattle.words.specs.Words.{low4};
 ghost use Rattle.record_bytes.specs.Places.{recordLength, headLength, slotLength, slotPlace, announcedLength, progressLength, progressPlace, lastPlace};
+use super::places::FIRST_LIMIT_AT;
 use super::places::GRANTED_AT;
 use super::places::LAST_AT;
-use super::places::LIMIT_AT;
 use super::places::MARK_AT;
 use super::places::MAX_AT;
 use super::places::NEXT_AT;
 use super::places::OWN_AT;
 use super::places::PGN_AT;
+use super::places::SECOND_LIMIT_AT;
 use super::places::SEGMENTS_AT;
 use super::places::SLOT_BYTES;
 use super::places::TOTAL_AT;
+use super::places::WAIT_AT;
 use super::places::slot_place;
 use super::slot::kind_byte;
+use super::slot::wait_byte;
 use octets::copy;
 use progress::Announced;
 use progress::Progress;
@@ -49,9 +52,12 @@ pub fn put_progress(out: &mut [u8], i: usize, p: Progress)
     ensures { λ _. ⌜ now (out .exit) ≡ paste (now (out .entry)) (progressPlace i) (progressBytes p) progressLength ⌝ }
 {
     let at = slot_place(i);
+    let wait = p.wait;
+    let code = [wait_byte(wait)];
     put_word(out, at + NEXT_AT, p.next.0);
     put_word(out, at + GRANTED_AT, p.granted.0);
     put_word(out, at + MARK_AT, p.mark);
+    copy(out, at + WAIT_AT, &code, 0, 1);
 }
 
 // Writes slot i; a free one is all zeros.
@@ -75,7 +81,7 @@ pub fn put_slot(out: &mut [u8], i: usize, s: Slot)
     }
 }
 
-// Writes the last reading, after own address and idle limit.
+// Writes the last reading, after own address and idle limits.
 pub fn put_last(out: &mut [u8], reading: u32)
     requires { ⌜ length (now out) ≡ recordLength ⌝ }
     ensures { λ _. ⌜ now (out .exit) ≡ paste (now (out .entry)) lastPlace (low4 reading []) 4 ⌝ }
@@ -83,13 +89,14 @@ pub fn put_last(out: &mut [u8], reading: u32)
     put_word(out, LAST_AT, reading);
 }
 
-// Writes the head: own address, idle limit, last reading.
+// Writes the head: own address, both idle limits, last reading.
 pub fn put_head(out: &mut [u8], r: Receiver)
     requires { ⌜ length (now out) ≡ recordLength ⌝ }
     ensures { λ _. ⌜ now (out .exit) ≡ paste (now (out .entry)) 0 (headBytes r) headLength ⌝ }
 {
     let own = [r.own.0];
     copy(out, OWN_AT, &own, 0, 1);
-    put_word(out, LIMIT_AT, r.limit);
+    put_word(out, FIRST_LIMIT_AT, r.limits.first);
+    put_word(out, SECOND_LIMIT_AT, r.limits.second);
     put_last(out, r.last);
 }

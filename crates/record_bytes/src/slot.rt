@@ -1,7 +1,7 @@
-// A slot read off its bytes, and the codes of its state and kind.
+// A slot read off its bytes, and the codes of its state, kind and wait.
 ghost use mathlib.Core.Path.{_≡_};
 ghost use lib.ListN.{length};
-ghost use Rattle.record_bytes.specs.Layout.{codesOk, kindByte, kindAt, sessionAt, slotAt};
+ghost use Rattle.record_bytes.specs.Layout.{isCode, codesOk, kindByte, kindAt, waitByte, waitAt, sessionAt, slotAt};
 ghost use Rattle.record_bytes.specs.Places.{slotLength};
 use super::places::DA_AT;
 use super::places::GRANTED_AT;
@@ -15,12 +15,14 @@ use super::places::SEGMENTS_AT;
 use super::places::SESSION_AT;
 use super::places::STATE_AT;
 use super::places::TOTAL_AT;
+use super::places::WAIT_AT;
 use frame::Address;
 use frame::ByteCount;
 use frame::SegmentNumber;
 use frame::SessionNumber;
 use progress::Announced;
 use progress::Progress;
+use progress::wait::Wait;
 use session::Session;
 use session::State;
 use slots::Slot;
@@ -28,11 +30,17 @@ use transport::Key;
 use transport::Kind;
 use words::word_at;
 
-// Whether a slot's first two bytes are codes: free, or open by RTS or by BAM.
-pub fn codes_ok(state: u8, kind: u8) -> bool
-    ensures { λ r. ⌜ r ≡ codesOk state kind ⌝ }
+fn is_code(byte: u8) -> bool
+    ensures { λ r. ⌜ r ≡ isCode byte ⌝ }
 {
-    (state == 0) | ((state == 1) & ((kind == 1) | (kind == 2)))
+    (byte == 1) | (byte == 2)
+}
+
+// Whether a slot's state, kind and wait are codes: free, or open by RTS or by BAM and in the first wait or the second.
+pub fn codes_ok(state: u8, kind: u8, wait: u8) -> bool
+    ensures { λ r. ⌜ r ≡ codesOk state kind wait ⌝ }
+{
+    (state == 0) | ((state == 1) & (is_code(kind) & is_code(wait)))
 }
 
 pub fn kind_byte(kind: Kind) -> u8
@@ -42,6 +50,24 @@ pub fn kind_byte(kind: Kind) -> u8
         Kind::Rts => 1,
         Kind::Bam => 2,
     }
+}
+
+pub fn wait_byte(wait: Wait) -> u8
+    ensures { λ r. ⌜ r ≡ waitByte wait ⌝ }
+{
+    match wait {
+        Wait::First => 1,
+        Wait::Second => 2,
+    }
+}
+
+fn wait_at(byte: u8) -> Wait
+    ensures { λ r. ⌜ r ≡ waitAt byte ⌝ }
+{
+    if byte == 2 {
+        return Wait::Second;
+    }
+    Wait::First
 }
 
 fn kind_at(byte: u8) -> Kind
@@ -59,6 +85,7 @@ pub fn session_at(piece: &[u8]) -> Session
     ensures { λ r. ⌜ r ≡ sessionAt (now (piece .entry)) ⌝ }
 {
     let kind = kind_at(piece[KIND_AT]);
+    let wait = wait_at(piece[WAIT_AT]);
     Session {
         announced: Announced {
             key: Key {
@@ -76,6 +103,7 @@ pub fn session_at(piece: &[u8]) -> Session
             next: SegmentNumber(word_at(piece, NEXT_AT)),
             granted: SegmentNumber(word_at(piece, GRANTED_AT)),
             mark: word_at(piece, MARK_AT),
+            wait: wait,
         },
     }
 }

@@ -1,4 +1,4 @@
--- The lines of a trace: 01, "Program". The receiver is opened with own address 33, limit 1,250 and reading 0; each record gives its lines;
+-- The lines of a trace: 01, "Program". The receiver is opened with own address 33, both limits 1,250 and reading 0; each record gives its lines;
 -- last comes the count of the records, or the place of a record that is bad or cut off, and nothing after it.
 use Prim.Native.Nat.{ℕ, zero, suc, _+_}
 use mathlib.Core.List.{List, [], _++_}
@@ -11,6 +11,7 @@ use Rattle.answer.specs.Places.{placeOf, placeBytes}
 use Rattle.trace.specs.declared.record.RecordRead.{RecordRead}
 use Rattle.trace.specs.declared.record.RecordRead.the-variants.{End, Reading, Frame, More, Bad}
 use Rattle.trace.specs.Records.{recordAt}
+use Rattle.progress.specs.declared.wait.IdleLimits.{IdleLimits}
 use Rattle.receiver.specs.declared.Receiver.{Receiver}
 use Rattle.receiver.specs.Bounds.{opened}
 use Rattle.receiver.specs.Calls.{Outcome, Elapsed, frameAll, readingStep}
@@ -97,8 +98,11 @@ linesIn M s d = linesFrom M (suc (length d)) s d
 abbrev pub own : Address
 own = record { 0 = 33 }
 
+abbrev pub limits : IdleLimits
+limits = record { first = 1250; second = 1250 }
+
 abbrev pub start : State Receiver
-start = record { receiver = opened own 1250 0 .receiver; store = replicate 32768 0; records = 0; place = 0 }
+start = record { receiver = opened own limits 0 .receiver; store = replicate 32768 0; records = 0; place = 0 }
 
 -- what the program prints
 unfoldable pub linesOf : List ℕ → List ℕ

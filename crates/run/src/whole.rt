@@ -6,23 +6,28 @@ ghost use Rattle.receiver.specs.Bounds.{opened};
 ghost use Rattle.record_bytes.specs.Layout.{storedIn};
 ghost use Rattle.text.specs.Line.{Placed};
 ghost use Rattle.text.specs.Put.{PutAt};
-ghost use Rattle.run.specs.Lines.{own};
+ghost use Rattle.run.specs.Lines.{own, limits};
 ghost use Rattle.run.specs.Takes.{isLong, lastLine, LastFits, TakesOr, finalLine};
 use super::piece::Stop;
 use super::piece::Went;
 use super::piece::take_records;
 use frame::Address;
+use progress::wait::IdleLimits;
 use receiver::Receiver;
 use record_bytes::layout::write_record;
 use report::run::write_bad_record;
 use report::run::write_end;
 use text::Wrote;
 
-// Own address 33, idle limit 1,250 ms, first reading 0. Says whether the buffer has a record's length.
+// Own address 33, both idle limits 1,250 ms, first reading 0. Says whether the buffer has a record's length.
 pub fn open(receiver: &mut [u8]) -> bool
-    ensures { λ r. ⌜ (r, now (receiver .exit)) ≡ storedIn (opened own 1250 0 .receiver) (now (receiver .entry)) ⌝ }
+    ensures { λ r. ⌜ (r, now (receiver .exit)) ≡ storedIn (opened own limits 0 .receiver) (now (receiver .entry)) ⌝ }
 {
-    let first = Receiver::open(Address(33), 1250, 0);
+    let limits = IdleLimits {
+        first: 1250,
+        second: 1250,
+    };
+    let first = Receiver::open(Address(33), limits, 0);
     let record = first.receiver;
     write_record(record, receiver)
 }

@@ -6,6 +6,7 @@ use Rattle.frame.specs.Pgn.{pgnOk}
 use Rattle.transport.specs.Kinds.{isRts}
 use Rattle.progress.specs.declared.Announced.{Announced}
 use Rattle.progress.specs.Forward.{grantOf}
+use Rattle.progress.specs.Waits.{waitAfter}
 use Rattle.frame.specs.declared.Address.{Address}
 use Rattle.frame.specs.declared.refusal.Refusal.{Refusal}
 use Rattle.frame.specs.declared.refusal.Refusal.the-variants.{PgnForm, AnnouncementForm, TooLong, Assurance}
@@ -48,12 +49,17 @@ abbrev pub announcedBy : Key → Announcement → Announced
 announcedBy k a =
     record { key = k; kind = a .kind; total = a .total; segments = a .segments; max = a .max; pgn = a .pgn }
 
--- none taken, and marked with the last reading
+-- none taken, and marked with the last reading; an RTS is answered by CTS, a BAM is not
 abbrev pub sessionOf : Key → Announcement → ℕ → Session
 sessionOf k a last =
     record {
       announced = announcedBy k a;
-      progress = record { next = record { 0 = 1 }; granted = record { 0 = firstGranted a }; mark = last };
+      progress = record {
+        next = record { 0 = 1 };
+        granted = record { 0 = firstGranted a };
+        mark = last;
+        wait = waitAfter (isRts (a .kind));
+      };
     }
 
 -- the CTS that answers an RTS: from segment 1

@@ -11,6 +11,8 @@ use Rattle.transport.specs.declared.Kind.{Kind}
 use Rattle.transport.specs.Kinds.{isRts}
 use Rattle.progress.specs.declared.Announced.{Announced}
 use Rattle.progress.specs.declared.Progress.{Progress}
+use Rattle.progress.specs.declared.wait.Wait.{Wait}
+use Rattle.progress.specs.Waits.{isSecond}
 use Rattle.session.specs.declared.Session.{Session}
 use Rattle.session.specs.declared.State.{State}
 use Rattle.session.specs.declared.State.the-variants.{Closed, Open}
@@ -39,8 +41,13 @@ reachOk next granted segments rts =
     && leb next (segments + 1)
     && (not rts || (leb next granted && leb granted segments) || (eqb next (segments + 1) && eqb granted segments))
 
+-- 02, E4: a BAM has no CTS, and so only the second wait
+abbrev pub waitOk : Bool → Wait → Bool
+waitOk rts wait = rts || isSecond wait
+
 abbrev pub progressOk : Announced → Progress → Bool
-progressOk a p = reachOk (p .next .0) (p .granted .0) (a .segments .0) (isRts (a .kind))
+progressOk a p =
+    reachOk (p .next .0) (p .granted .0) (a .segments .0) (isRts (a .kind)) && waitOk (isRts (a .kind)) (p .wait)
 
 abbrev pub sessionOk : Address → Session → Bool
 sessionOk own s = announcedOk (s .announced) && keyOk own (s .announced) && progressOk (s .announced) (s .progress)
@@ -69,3 +76,4 @@ pub record Reached (a : Announced) (p : Progress) : Type 0 where
   pub low : 1 ≤ p .next .0
   pub high : p .next .0 ≤ a .segments .0 + 1
   pub ahead : isRts (a .kind) ≡ true → Ahead (p .next .0) (p .granted .0) (a .segments .0)
+  pub wait : waitOk (isRts (a .kind)) (p .wait) ≡ true

@@ -18,6 +18,8 @@ use Rattle.answer.specs.declared.End.{End}
 use Rattle.answer.specs.declared.End.the-variants as end
 use Rattle.progress.specs.declared.Progress.{Progress}
 use Rattle.progress.specs.Forward.{ctsDue, advancedBy}
+use Rattle.progress.specs.Waits.{limitIn}
+use Rattle.progress.specs.declared.wait.IdleLimits.{IdleLimits}
 use Rattle.session.specs.declared.Session.{Session}
 use Rattle.session.specs.declared.State.{State}
 use Rattle.session.specs.declared.State.the-variants.{Closed, Open}
@@ -158,5 +160,8 @@ abortTo x pgn = ifOpen x (λ s. abortOpen s pgn)
 
 -- ---- a reading: the session stays, or ends with 22
 
-abbrev pub endAt : ℕ → ℕ → Session → End
-endAt limit t s = cond (isIdle limit (s .progress .mark) t) (end.Ended (endingOf s Silence)) end.Stays
+abbrev pub isSilent : IdleLimits → ℕ → Session → Bool
+isSilent limits t s = isIdle (limitIn limits (s .progress .wait)) (s .progress .mark) t
+
+abbrev pub endAt : IdleLimits → ℕ → Session → End
+endAt limits t s = cond (isSilent limits t s) (end.Ended (endingOf s Silence)) end.Stays

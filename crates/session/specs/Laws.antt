@@ -25,9 +25,10 @@ use Rattle.transport.specs.Kinds.{isRts}
 use Rattle.progress.specs.declared.Announced.{Announced}
 use Rattle.progress.specs.declared.Progress.{Progress}
 use Rattle.progress.specs.Forward.{grantOf, advancedBy}
+use Rattle.progress.specs.Waits.{waitAfter}
 use Rattle.session.specs.Announcements.{badNumbers, formOf, announcedBy, sessionOf}
 use Rattle.session.specs.Segments.{dueOf, judgedOf}
-use Rattle.session.specs.Bounds.{announcedOk, progressOk, Agreed, AgreedIn, Ahead, Reached}
+use Rattle.session.specs.Bounds.{announcedOk, waitOk, progressOk, Agreed, AgreedIn, Ahead, Reached}
 
 -- ---- grants
 
@@ -137,7 +138,7 @@ module _ (a : Announced) (p : Progress) where
 
   progress-tests : List Bool
   progress-tests =
-      leb 1 (p .next .0) ∷ leb (p .next .0) (a .segments .0 + 1) ∷ (not rts || waits || over) ∷ []
+      leb 1 (p .next .0) ∷ leb (p .next .0) (a .segments .0 + 1) ∷ (not rts || waits || over) ∷ waitOk rts (p .wait) ∷ []
 
   pub progress-reached : progressOk a p ≡ true → Reached a p
   unfolding rts waits over progress-tests
@@ -147,6 +148,7 @@ module _ (a : Announced) (p : Progress) where
         low = leb-true _ _ (t .0);
         high = leb-true _ _ (t .1 .0);
         ahead = λ r. by (or-either waits over (implied rts (waits || over) (sym (or-assoc (not rts) waits over) ∙ t .1 .1 .0) r));
+        wait = t .1 .1 .1 .0;
       }
     where
       by : (waits ≡ true) ⊎ (over ≡ true) → Ahead (p .next .0) (p .granted .0) (a .segments .0)
@@ -160,7 +162,7 @@ module _ (a : Announced) (p : Progress) where
         le-leb _ _ (h .low),
         (
           le-leb _ _ (h .high),
-          (or-assoc (not rts) waits over ∙ implies rts (waits || over) (λ r. by (h .ahead r)), tt),
+          (or-assoc (not rts) waits over ∙ implies rts (waits || over) (λ r. by (h .ahead r)), (h .wait, tt)),
         ),
       )
     where
@@ -179,8 +181,17 @@ pub opened-reached : (k : Key) (a : Announcement) (last : ℕ) → formOf a ≡ 
 opened-reached k a last e =
     let f = form-agreed a e .0 in
     let some : 1 ≤ a .segments .0 = omega arith in
-    record { low = omega arith; high = omega arith; ahead = λ r. by (isRts (a .kind)) r some (f .grants r) }
+    record {
+      low = omega arith;
+      high = omega arith;
+      ahead = λ r. by (isRts (a .kind)) r some (f .grants r);
+      wait = begins (isRts (a .kind));
+    }
   where
+    begins : (rts : Bool) → waitOk rts (waitAfter rts) ≡ true
+    begins true = refl
+    begins false = refl
+
     by : (rts : Bool) → rts ≡ true → 1 ≤ a .segments .0 → 1 ≤ a .max
         → Ahead 1 (cond rts (grantOf (a .max) (a .segments .0)) 0) (a .segments .0)
     by true r l m = inl (grant-some _ _ m l, grant-left _ _)
@@ -223,8 +234,17 @@ pub advanced-reached : (s : Session) (n room last : ℕ) → AgreedIn (s .announ
     → Reached (s .announced) (advancedBy (s .progress) (s .announced) n last)
 advanced-reached s n room last a p e =
     let t = takes-in-turn s n room e in
-    record { low = omega arith; high = omega arith; ahead = λ r. by (isRts (s .announced .kind)) r t (p .ahead r) (a .grants r) }
+    record {
+      low = omega arith;
+      high = omega arith;
+      ahead = λ r. by (isRts (s .announced .kind)) r t (p .ahead r) (a .grants r);
+      wait = goes-on (isRts (s .announced .kind)) (eqb n (s .progress .granted .0)) (ltb n (s .announced .segments .0));
+    }
   where
+    goes-on : (rts used left : Bool) → waitOk rts (waitAfter (rts && used && left)) ≡ true
+    goes-on true used left = refl
+    goes-on false used left = refl
+
     by : (rts : Bool) → rts ≡ true → InTurn s n room → Ahead (s .progress .next .0) (s .progress .granted .0) (s .announced .segments .0) → 1 ≤ s .announced .max
         → Ahead (n + 1) (cond (rts && eqb n (s .progress .granted .0) && ltb n (s .announced .segments .0))
         (n + grantOf (s .announced .max) (s .announced .segments .0 - n)) (s .progress .granted .0)) (s .announced .segments .0)

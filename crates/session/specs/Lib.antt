@@ -9,3 +9,4 @@ pub mod Table
 pub mod InBounds
 pub mod Effects
 pub mod Fits
+pub mod Silences

@@ -1,7 +1,7 @@
 -- Lines P8 to P12 of 01's table, as far as one session decides them.
 use Prim.Native.Nat.{ℕ, zero, suc}
 use mathlib.Core.Path.{_≡_, refl}
-use mathlib.Core.Bool.{true, false}
+use mathlib.Core.Bool.{Bool, true, false}
 use mathlib.Core.List.{List, [], _∷_}
 use Rattle.frame.specs.declared.refusal.Refusal.the-variants.{AnnouncementForm, TooLong}
 use Rattle.transport.specs.declared.Key.{Key}
@@ -15,6 +15,10 @@ use Rattle.session.specs.declared.Step.{Step}
 use Rattle.answer.specs.declared.Answer.{Answer}
 use Rattle.answer.specs.declared.Answer.the-variants as answer
 use Rattle.progress.specs.Forward.{grantOf}
+use Rattle.progress.specs.Waits.{limitIn}
+use Rattle.progress.specs.declared.wait.Wait.{Wait}
+use Rattle.progress.specs.declared.wait.Wait.the-variants.{First, Second}
+use Rattle.progress.specs.declared.wait.IdleLimits.{IdleLimits}
 use Rattle.session.specs.Announcements.{formOf, sessionOf, firstCts}
 use Rattle.session.specs.Segments.{dueOf, judgedOf}
 use Rattle.session.specs.Decisions.{segmentOpen}
@@ -85,6 +89,13 @@ pub count-first : formOf (rtsOf 4097 68) ≡ Bad AnnouncementForm
 unfolding formOf
 count-first = refl
 
-pub P12 : (isIdle 1250 4294967290 1243 ≡ false) × (isIdle 1250 4294967290 1244 ≡ true)
+-- the standard's two limits, 1,250 after a CTS and 750 between segments: each wait has its own
+abbrev limits : IdleLimits
+limits = record { first = 1250; second = 750 }
+
+abbrev idleIn : Wait → ℕ → Bool
+idleIn wait t = isIdle (limitIn limits wait) 4294967290 t
+
+pub P12 : (idleIn First 1243 ≡ false) × ((idleIn First 1244 ≡ true) × ((idleIn Second 743 ≡ false) × (idleIn Second 744 ≡ true)))
 unfolding elapsed
-P12 = (refl, refl)
+P12 = (refl, (refl, (refl, refl)))

@@ -16,6 +16,7 @@ use frame::refusal::Refusal;
 use progress::Announced;
 use progress::Progress;
 use progress::grant::grant;
+use progress::wait::wait_after;
 use transport::Key;
 use transport::Kind;
 use transport::announcement::Announcement;
@@ -86,6 +87,7 @@ fn open_session(key: Key, a: Announcement, last: u32) -> Session
     let kind = a.kind;
     let total = a.total;
     let segments = a.segments;
+    let wait = wait_after(is_rts(kind));
     Session {
         announced: Announced {
             key: key,
@@ -99,6 +101,7 @@ fn open_session(key: Key, a: Announcement, last: u32) -> Session
             next: SegmentNumber(1),
             granted: SegmentNumber(granted),
             mark: last,
+            wait: wait,
         },
     }
 }

@@ -1,4 +1,5 @@
 pub mod Slots
 pub mod Bounds
+pub mod ByKind
 pub mod Facts
 pub mod Searches

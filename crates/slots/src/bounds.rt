@@ -1,15 +1,16 @@
-// Whether opening values, and an open session, are in bounds (01, "Numbered refusals").
+// Whether opening values, and an open session, are in bounds (01, "Numbered refusals"; 02, E4).
 ghost use mathlib.Core.Path.{_≡_};
-ghost use mathlib.Core.Bool.{cond};
-ghost use Rattle.transport.specs.Kinds.{isRts};
-ghost use Rattle.session.specs.Bounds.{countsOk, takenHere, reachOk, sessionOk};
-ghost use Rattle.slots.specs.Bounds.{openingOk};
+ghost use Rattle.session.specs.Bounds.{sessionOk};
+ghost use Rattle.slots.specs.Bounds.{openingOk, valuesOk};
+ghost use Rattle.slots.specs.ByKind.{numbersOk, nextOk, sourceOk, rtsOk, bamOk};
 use frame::Address;
 use frame::pgn;
+use progress::wait::IdleLimits;
+use progress::wait::Wait;
+use progress::wait::is_second;
 use session::Session;
 use transport::Key;
 use transport::Kind;
-use transport::is_rts;
 
 // Own address 0 to 253, idle limit 1 to 60,000.
 pub fn opening_ok(own: Address, limit: u32) -> bool
@@ -18,41 +19,50 @@ pub fn opening_ok(own: Address, limit: u32) -> bool
     (own.0 <= 253) & (1 <= limit) & (limit <= 60000)
 }
 
-// The DA of a transfer: the own address for RTS, 255 for BAM.
-fn destination(kind: Kind, own: Address) -> u8
-    ensures { λ r. ⌜ r ≡ cond (isRts kind) (own .0) 255 ⌝ }
+// The opening values of a receiver, which has two limits.
+pub fn values_ok(own: Address, limits: IdleLimits) -> bool
+    ensures { λ r. ⌜ r ≡ valuesOk own limits ⌝ }
 {
-    match kind {
-        Kind::Rts => own.0,
-        Kind::Bam => 255,
-    }
+    opening_ok(own, limits.first) & (1 <= limits.second) & (limits.second <= 60000)
 }
 
-// The numbers announced are as an announcement allows.
-fn counts_ok(total: u32, segments: u32, pgn: u32, rts: bool, max: u8) -> bool
-    ensures { λ r. ⌜ r ≡ countsOk total segments pgn rts max ⌝ }
+// The numbers that every kind announces are as an announcement allows.
+fn numbers_ok(total: u32, segments: u32, pgn: u32) -> bool
+    ensures { λ r. ⌜ r ≡ numbersOk total segments pgn ⌝ }
 {
     (1 <= total)
         & (total <= 4096)
         & (segments as u64 == (total as u64 + 59) / 60)
         & pgn::is_pgn(pgn)
-        & (!rts | (1 <= max))
 }
 
-// SA, DA and session number are such as are taken here.
-fn key_ok(key: Key, da: u8, own: Address) -> bool
-    ensures { λ r. ⌜ r ≡ takenHere key da own ⌝ }
+// SA and session number are such as are taken here.
+fn source_ok(key: Key, own: Address) -> bool
+    ensures { λ r. ⌜ r ≡ sourceOk key own ⌝ }
 {
-    (key.sa.0 <= 253) & (key.sa.0 != own.0) & (key.da.0 == da) & (key.session.0 <= 15)
+    (key.sa.0 <= 253) & (key.sa.0 != own.0) & (key.session.0 <= 15)
 }
 
-// The next segment and the last granted are within reach: where not all is granted, the next segment is.
-fn reach_ok(next: u32, granted: u32, segments: u32, rts: bool) -> bool
-    ensures { λ r. ⌜ r ≡ reachOk next granted segments rts ⌝ }
+// The next segment is one of the message, or the one after its last.
+fn next_ok(next: u32, segments: u32) -> bool
+    ensures { λ r. ⌜ r ≡ nextOk next segments ⌝ }
 {
-    (1 <= next)
-        & (next as u64 <= segments as u64 + 1)
-        & (!rts | ((granted <= segments) & ((granted == segments) | (next <= granted))))
+    (1 <= next) & (next as u64 <= segments as u64 + 1)
+}
+
+// An RTS goes to the own address and has MAX SGMTS, and where not all is granted, the next segment is.
+fn rts_ok(da: u8, own: u8, max: u8, next: u32, granted: u32, segments: u32) -> bool
+    ensures { λ r. ⌜ r ≡ rtsOk da own max next granted segments ⌝ }
+{
+    (da == own)
+        & ((1 <= max) & ((granted <= segments) & ((granted == segments) | (next <= granted))))
+}
+
+// A BAM goes to 255, and has only the second wait.
+fn bam_ok(da: u8, wait: Wait) -> bool
+    ensures { λ r. ⌜ r ≡ bamOk da wait ⌝ }
+{
+    (da == 255) & is_second(wait)
 }
 
 // Numbers go to each test, and no part of the session whole: it is read out of a record's bytes, and only what is tested is.
@@ -60,14 +70,21 @@ pub fn session_ok(s: Session, own: Address) -> bool
     ensures { λ r. ⌜ r ≡ sessionOk own s ⌝ }
 {
     let a = s.announced;
+    let p = s.progress;
     let kind = a.kind;
-    let rts = is_rts(kind);
     let key = a.key;
-    if !counts_ok(a.total.0, a.segments.0, a.pgn, rts, a.max) {
+    let wait = p.wait;
+    if !numbers_ok(a.total.0, a.segments.0, a.pgn) {
         return false;
     }
-    if !key_ok(key, destination(kind, own), own) {
+    if !source_ok(key, own) {
         return false;
     }
-    reach_ok(s.progress.next.0, s.progress.granted.0, a.segments.0, rts)
+    if !next_ok(p.next.0, a.segments.0) {
+        return false;
+    }
+    match kind {
+        Kind::Rts => rts_ok(key.da.0, own.0, a.max, p.next.0, p.granted.0, a.segments.0),
+        Kind::Bam => bam_ok(key.da.0, wait),
+    }
 }

@@ -6,6 +6,7 @@ use mathlib.Core.Option.{Option, none, some}
 use mathlib.Core.List.{List, [], _∷_, _++_}
 use lib.ListN.{length}
 use borrow.Author.Tests.{eq-eqb}
+use Rattle.progress.specs.declared.wait.IdleLimits.{IdleLimits}
 use Rattle.receiver.specs.declared.Receiver.{Receiver}
 use Rattle.receiver.specs.Bounds.{inBounds}
 use Rattle.lent_record.specs.Ready.{readyIn}
@@ -125,16 +126,16 @@ together v k b m s h (c ∷ cs) (p, ps) =
 
 -- ---- the theorems
 
-module _ (own limit first : ℕ) (d : List ℕ) (zero-answered : openedIn own limit first d .0 ≡ 0) (t : first < 4294967296) where
+module _ (own : ℕ) (limits : IdleLimits) (first : ℕ) (d : List ℕ) (zero-answered : openedIn own limits first d .0 ≡ 0) (t : first < 4294967296) where
   abbrev v : Values
-  v = record { own = record { 0 = own }; limit = limit }
+  v = record { own = record { 0 = own }; limits = limits }
 
   abbrev b : List ℕ
-  b = openedIn own limit first d .1
+  b = openedIn own limits first d .1
 
   module _ (m : List ℕ) (whole : length m ≡ 32768) where
     opened-held : Held b m
-    opened-held = record { holds = _; there = opened-holds own limit first d zero-answered t m whole; fine = opened-fine own limit first d zero-answered t m whole }
+    opened-held = record { holds = _; there = opened-holds own limits first d zero-answered t m whole; fine = opened-fine own limits first d zero-answered t m whole }
 
     -- DEMAND 3 AT A NODE. After an opening of the receiver that is answered 0, over any store of 32,768 bytes and any bytes as the sender's
     -- record, for every list of calls at both ends and every key: what a program in C reads off its bytes for the key is what the rules
@@ -143,7 +144,7 @@ module _ (own limit first : ℕ) (d : List ℕ) (zero-answered : openedIn own li
         → seenOver v k b m s cs ≡ outputs v k (fresh first) (told v (λ j. fresh first) k (callsOf (received s cs)))
     demand-3-together s cs p k =
         together v k b m s opened-held cs p .shows-it
-        ∙ demand-3-carried own limit first d zero-answered t m whole (received s cs) (all-proper s cs p) k
+        ∙ demand-3-carried own limits first d zero-answered t m whole (received s cs) (all-proper s cs p) k
 
     -- The receiver's record and the store after the list are those after the receiver's calls in it: every byte.
     pub receiver-after : (s : List ℕ) (cs : List NodeCall) → AllSuit cs

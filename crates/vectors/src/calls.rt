@@ -6,6 +6,7 @@ use answer::place::place_of;
 use engine::call::take_frame;
 use frame::Address;
 use frame::octet::low_byte;
+use progress::wait::IdleLimits;
 use receiver::Receiver;
 use record_bytes::layout::write_record;
 use report::answer_lines::write_answer;
@@ -102,7 +103,11 @@ fn whole(receiver: &mut [u8], t: Transfer, store: &mut [u8]) {
 }
 
 fn open(receiver: &mut [u8]) {
-    let opened = Receiver::open(Address(33), 1250, 0);
+    let limits = IdleLimits {
+        first: 1250,
+        second: 1250,
+    };
+    let opened = Receiver::open(Address(33), limits, 0);
     write_record(opened.receiver, receiver);
 }
 

@@ -1,9 +1,11 @@
 //! The sender and the node: plain's answers and record of the sender as include/dwaebinam.h and docs/WIRE.md lay them out.
 
-use super::{kind, put, put_key, put_sent, record_over};
-use crate::frames::{damage, noise, Dice, Frame, Sending, LIMIT, OWN, TOTAL};
+use super::waits::any_reading;
+use super::{kind, put, put_key, put_sent, read, record_over};
+use crate::frames::{damage, noise, Dice, Frame, Sending, LIMIT, LIMITS, OWN, TOTAL};
 use crate::ours::{OurNode, ANSWER_BYTES, SENDER_BYTES, STORE_BYTES, TRANSFER_ANSWERS_BYTES};
 use plain::node::{Answer as NodeAnswer, Node};
+use plain::receiver::Limits;
 use plain::sender::{Answer, Sender, Totals, Transfer};
 use plain::FRAME_BYTES;
 
@@ -89,19 +91,24 @@ struct Pair<const CHECKED: bool> {
     plain: Node<CHECKED>,
     store: Vec<u8>,
     frame: [u8; FRAME_BYTES],
+    limits: Limits,
+    /// The sender's last reading.
     last: u32,
+    receivers_last: u32,
     calls: usize,
     seen: [usize; 256],
 }
 
 impl<const CHECKED: bool> Pair<CHECKED> {
-    fn open() -> Self {
+    fn open(limits: Limits) -> Self {
         Pair {
-            ours: OurNode::open(OWN, LIMIT, 7),
-            plain: Node::open(OWN, LIMIT, 7),
+            ours: OurNode::open(OWN, limits, LIMIT, 7),
+            plain: Node::open(OWN, limits, LIMIT, 7),
             store: vec![0; STORE_BYTES],
             frame: [0; FRAME_BYTES],
+            limits,
             last: 7,
+            receivers_last: 7,
             calls: 0,
             seen: [0; 256],
         }
@@ -113,7 +120,7 @@ impl<const CHECKED: bool> Pair<CHECKED> {
         assert_eq!(answer, expected, "answer, call {calls}, {what}");
         let sender = sender_over(&plain.sender, &ours.sender.record, self.last);
         assert_eq!(ours.sender.record, sender, "sender, call {calls}, {what}");
-        let record = record_over(&plain.receiver, &ours.receiver.record);
+        let record = record_over(&plain.receiver, &ours.receiver.record, self.limits, self.receivers_last);
         assert_eq!(ours.receiver.record, record, "record, call {calls}, {what}");
         assert_eq!(ours.sender.frame, self.frame, "frame, call {calls}, {what}");
         if calls % 64 == 63 {
@@ -165,12 +172,23 @@ impl<const CHECKED: bool> Pair<CHECKED> {
         self.agree("reading", number, whole, whole);
         assert_eq!(answers, expected, "answers, call {}", self.calls);
     }
+
+    /// A reading to the receiver.
+    fn receiver_reading(&mut self, now: u32) {
+        let what = format!("call {}, receiver's reading", self.calls);
+        let (number, ended) = read(&mut self.ours.receiver, &mut self.plain.receiver, now, &what);
+        self.receivers_last = now;
+        let mut whole = [0; ANSWER_BYTES];
+        whole[0] = number;
+        self.agree("receiver's reading", number, whole, whole);
+        self.seen[22] += ended;
+    }
 }
 
 /// The calls that are measured.
 pub fn compare_send<const CHECKED: bool>(s: &Sending) {
     let message = s.message();
-    let mut pair = Pair::<CHECKED>::open();
+    let mut pair = Pair::<CHECKED>::open(LIMITS);
     for _ in 0..3 {
         pair.announce(s, &message);
         for (cts, count) in s.grants() {
@@ -228,15 +246,15 @@ fn any_reply(dice: &mut Dice, t: &Transfer) -> Frame {
 }
 
 /// Calls of all kinds in any order, some of them wrong. How often each number was the answer.
-pub fn compare_calls<const CHECKED: bool>(calls: usize, seed: u64) -> [usize; 256] {
+pub fn compare_calls<const CHECKED: bool>(calls: usize, seed: u64, limits: Limits) -> [usize; 256] {
     let mut dice = Dice(seed);
     let noise = noise(calls, seed);
     let bytes: Vec<u8> = (0..=TOTAL).map(|_| dice.roll(256) as u8).collect();
-    let mut pair = Pair::<CHECKED>::open();
+    let mut pair = Pair::<CHECKED>::open(limits);
     while pair.calls < calls {
         let s = any_sending(&mut dice);
         let t = pair.plain.sender.transfers()[dice.roll(4)];
-        match (dice.roll(24), t) {
+        match (dice.roll(25), t) {
             (0 | 1, _) => pair.announce(&s, &bytes[..s.total as usize]),
             (2, _) => pair.reading(pair.last.wrapping_add([1, 100, 700, 1250][dice.roll(4)])),
             (3, _) => pair.next(s.da, s.number, &bytes[..s.total as usize]),
@@ -250,6 +268,10 @@ pub fn compare_calls<const CHECKED: bool>(calls: usize, seed: u64) -> [usize; 25
                 } else {
                     pair.take_at_node(&reply);
                 }
+            }
+            (24, _) => {
+                let now = any_reading(&mut dice, &pair.plain.receiver, limits, pair.receivers_last);
+                pair.receiver_reading(now);
             }
             // a grant is asked for whole, more often than not
             (_, Some(t)) => {

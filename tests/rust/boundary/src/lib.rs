@@ -5,7 +5,7 @@ mod header {
     extern "C" {
         pub fn dwb_version() -> u32;
         pub fn dwb_least_length(need: usize) -> usize;
-        pub fn dwb_open(record: *mut u8, record_bytes: usize, own: u8, limit: u32, reading: u32) -> u8;
+        pub fn dwb_open(record: *mut u8, record_bytes: usize, own: u8, first: u32, second: u32, reading: u32) -> u8;
         pub fn dwb_frame(
             record: *mut u8,
             record_bytes: usize,
@@ -104,7 +104,7 @@ mod header {
 }
 
 /// DWB_VERSION of the header that these declarations are of.
-pub const VERSION: u32 = 2;
+pub const VERSION: u32 = 3;
 
 pub fn version() -> u32 {
     unsafe { header::dwb_version() }
@@ -114,8 +114,8 @@ pub fn least_length(need: usize) -> usize {
     unsafe { header::dwb_least_length(need) }
 }
 
-pub fn open(record: &mut [u8], own: u8, limit: u32, reading: u32) -> u8 {
-    unsafe { header::dwb_open(record.as_mut_ptr(), record.len(), own, limit, reading) }
+pub fn open(record: &mut [u8], own: u8, first: u32, second: u32, reading: u32) -> u8 {
+    unsafe { header::dwb_open(record.as_mut_ptr(), record.len(), own, first, second, reading) }
 }
 
 pub fn frame(record: &mut [u8], id: u32, bytes: &[u8], store: &mut [u8], answer: &mut [u8]) -> u8 {

@@ -1,6 +1,7 @@
 //! Holds the archive against the rules, call by call, over fixed seeds, and runs the trace samples through it. Exit status 0 only if no
 //! call differed and everything came up that can.
 
+mod limits;
 mod network;
 mod pair;
 mod random;
@@ -8,6 +9,7 @@ mod repeats;
 mod samples;
 mod sender;
 mod traffic;
+mod waits;
 
 use network::Counts;
 use pair::{Pair, Tally};
@@ -165,6 +167,8 @@ fn print_whole(whole: &Tally) {
     println!("answers: {}", codes.join(", "));
     let forms: Vec<String> = repeats::NAMES.iter().zip(whole.repeats).map(|(name, n)| format!("{name} {n}")).collect();
     println!("open keys: {}", forms.join(", "));
+    let forms: Vec<String> = whole.waits.iter().enumerate().map(|(i, n)| format!("{}: {n}", waits::name(i))).collect();
+    println!("two limits: {}", forms.join("; "));
 }
 
 /// Every refusal and every answer has to have come up.
@@ -174,6 +178,9 @@ fn check_whole(whole: &Tally, faults: &mut Faults) {
     }
     for (code, _) in whole.codes.iter().enumerate().skip(1).filter(|(_, &count)| count == 0) {
         faults.add(format!("answer {} never came up", CODES[code]));
+    }
+    for form in waits::missing(&whole.waits) {
+        faults.add(format!("with two limits: {form} never came up"));
     }
     if whole.calls < LEAST_CALLS {
         faults.add(format!("only {} calls were compared", whole.calls));

@@ -2,12 +2,15 @@
 //! along with it, compared at every call. Without loss every message arrives, equal and once, and nothing is refused. With losses
 //! nothing is handed over that was not announced under its key, and no announcement twice; there a key is used again only when the
 //! queues are empty and what it stood for has ended at both ends. Either end may be a node, which takes its frames by the node's call.
+//! What a reading ends is what the network reckons by itself, at the receiver by the limit of each session's wait.
 
 mod announced;
 mod counts;
 mod end;
+mod sessions;
 mod third;
 
+use crate::limits;
 use crate::pair::{expect, Difference, Given, Pair, Verdict};
 use crate::random::Random;
 use crate::sender::{good_pgn, Frame};
@@ -19,6 +22,7 @@ use rules::calls::Code;
 use rules::frame::{number24, GLOBAL};
 use rules::receiver::segments_of;
 use rules::sending::TRANSFERS;
+use sessions::{Line, Sessions};
 use std::collections::VecDeque;
 use third::Third;
 
@@ -62,6 +66,8 @@ struct Network<'a> {
     to_sender: VecDeque<Frame>,
     /// Since the queues were last empty and nothing open.
     announced: Vec<Announced>,
+    /// Open at the receiver.
+    sessions: Sessions,
     /// One frame in so many is lost; 0 for none.
     loss: usize,
     /// Where frames are lost: of the sender's and the receiver's readings one in so many may be a silence.
@@ -109,8 +115,21 @@ impl<'a> Network<'a> {
         let receiver = End::new(receiving, random, other)?;
         let third = Third::new(random, third, sender.own);
         let (to_receiver, to_sender) = (VecDeque::new(), VecDeque::new());
-        let (announced, loss, silence) = (Vec::new(), 0, (0, 0));
-        Ok(Network { sender, receiver, third, random, counts, to_receiver, to_sender, announced, loss, silence })
+        let (announced, sessions) = (Vec::new(), Sessions::new(receiver.limits));
+        let (loss, silence) = (0, (0, 0));
+        Ok(Network {
+            sender,
+            receiver,
+            third,
+            random,
+            counts,
+            to_receiver,
+            to_sender,
+            announced,
+            sessions,
+            loss,
+            silence,
+        })
     }
 
     /// So many announcements, and all that comes of them.
@@ -239,6 +258,8 @@ impl<'a> Network<'a> {
             return Ok(());
         }
         let given = self.taken_by_receiver(&frame)?;
+        let line: Line = ((frame.id >> 8) as u8, frame.bytes[0] >> 4);
+        self.sessions.answered(line, &given, self.receiver.clock);
         let number = given.number();
         match number {
             0 => {}
@@ -332,10 +353,13 @@ impl<'a> Network<'a> {
         expect(given.sent().is_none(), || format!("{frame:02X?} was answered: {:02X?}", given.0))
     }
 
-    /// How far a clock goes on. Without loss nothing may end.
+    /// How far a clock goes on. Without loss nothing may end; with losses just the first silence may have run out, or any.
     fn passed(&mut self, last: u32, limit: u32, slack: Option<u32>, silence: usize) -> u32 {
         if self.loss > 0 && self.random.once_in(silence) {
-            return self.random.below(2 * limit as usize) as u32;
+            return match slack {
+                Some(slack) if self.random.once_in(2) => slack + 1,
+                _ => self.random.below(2 * limit as usize) as u32,
+            };
         }
         let Some(slack) = slack else {
             return start(self.random).wrapping_sub(last);
@@ -389,22 +413,38 @@ impl<'a> Network<'a> {
     }
 
     fn receivers_clock(&mut self) -> Verdict<()> {
-        let slots = self.receiver.pair.state().map(|state| state.slots).unwrap_or_default();
-        let End { limit, clock, .. } = self.receiver;
-        let slack = slack(clock, limit, slots.iter().flatten().map(|session| session.mark));
-        let passed = self.passed(clock, limit, slack, self.silence.1);
+        let End { limits, clock, .. } = self.receiver;
+        let slack = self.sessions.silences().map(|silence| silence.slack(clock)).min();
+        let passed = self.passed(clock, limits::longer(limits), slack, self.silence.1);
         self.receivers_reading(passed)
     }
 
     fn receivers_reading(&mut self, passed: u32) -> Verdict<()> {
-        self.receiver.clock = self.receiver.clock.wrapping_add(passed);
-        let (number, endings) = self.receiver.pair.reading(self.receiver.clock)?;
-        expect(number == 0, || format!("the receiver's reading was refused with {number}"))?;
-        for ending in endings.iter().filter(|ending| ending.code() != 0) {
-            expect(self.loss > 0, || "a session ended by silence".into())?;
-            self.counts.add(Met::SilentSession);
-            self.reply(ending);
+        let reading = self.receiver.clock.wrapping_add(passed);
+        self.receiver.clock = reading;
+        let (number, given) = self.receiver.pair.reading(reading)?;
+        expect(number == 0, || format!("the receiver's reading {reading} was refused with {number}"))?;
+        let mut ended: Vec<Given> = given.into_iter().filter(|ending| ending.code() != 0).collect();
+        ended.sort_by_key(|ending| (ending.0[3], ending.0[4]));
+        let due = self.sessions.run_out(reading);
+        expect(ended.len() == due.len(), || format!("reading {reading}: {} ended, due {due:?}", ended.len()))?;
+        for (ending, (line, silence)) in ended.iter().zip(due) {
+            self.session_ended(ending, line)?;
+            self.counts.silent(silence, self.receiver.limits, reading);
         }
+        for silence in self.sessions.silences() {
+            self.counts.outlived(silence, self.receiver.limits, reading);
+        }
+        expect(ended.is_empty() || self.loss > 0, || "a session ended by silence".into())
+    }
+
+    /// This is the ending due to the session of this line; a broadcast's sends nothing.
+    fn session_ended(&mut self, ending: &Given, (destination, session): Line) -> Verdict<()> {
+        let is_its_own = ending.0[2..5] == [self.sender.own, destination, session];
+        let is_silence = ending.is(Code::Ended) && ending.number() == 22;
+        let is_right = is_its_own && is_silence && ending.sent().is_none() == (destination == GLOBAL);
+        expect(is_right, || format!("to {destination}, session {session}, silence is due: {:02X?}", ending.0))?;
+        self.reply(ending);
         Ok(())
     }
 
@@ -434,7 +474,7 @@ impl<'a> Network<'a> {
             if senders {
                 self.senders_reading(self.sender.limit)?;
             } else {
-                self.receivers_reading(self.receiver.limit)?;
+                self.receivers_reading(limits::longer(self.receiver.limits))?;
             }
             self.drain()?;
         }
@@ -445,6 +485,7 @@ impl<'a> Network<'a> {
         let sessions = self.receiver.pair.state().map_or(0, |state| state.slots.iter().flatten().count());
         let transfers = self.sender.pair.sender_state().transfers.iter().flatten().count();
         expect(sessions == 0 && transfers == 0, || format!("{sessions} sessions, {transfers} transfers stay open"))?;
+        expect(self.sessions.is_empty(), || "a session is not open that should be".into())?;
         for a in self.announced.drain(..) {
             let (by_bam, length) = (a.destination == GLOBAL, a.message.len());
             if self.loss > 0 {

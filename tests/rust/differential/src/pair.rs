@@ -14,8 +14,9 @@ mod sending;
 
 use crate::random::Random;
 use crate::repeats::{self, Form, Watch};
+use crate::waits;
 use rules::calls::{self, Code, ANSWERS_BYTES, ANSWER_BYTES, GROUPS_WORDS, RECORD_BYTES};
-use rules::receiver::{Receiver, STORE_BYTES};
+use rules::receiver::{Limits, Receiver, STORE_BYTES};
 use rules::sender_calls::{self, FRAME_BYTES, SENDER_BYTES, TRANSFER_ANSWERS_BYTES};
 use std::fmt::{Debug, Display};
 
@@ -91,7 +92,7 @@ impl<T: Copy + PartialEq + Debug> Buffer<T> {
 #[allow(clippy::type_complexity)]
 struct Calls {
     least_length: fn(usize) -> usize,
-    open: fn(&mut [u8], u8, u32, u32) -> u8,
+    open: fn(&mut [u8], u8, u32, u32, u32) -> u8,
     frame: fn(&mut [u8], u32, &[u8], &mut [u8], &mut [u8]) -> u8,
     reading: fn(&mut [u8], u32, &[u8], &mut [u8]) -> u8,
     message: fn(&[u8], &[u8], &mut [u8]) -> usize,
@@ -195,6 +196,8 @@ pub struct Tally {
     pub groups: u64,
     /// By `Form`.
     pub repeats: [u64; repeats::NAMES.len()],
+    /// By form of `waits`.
+    pub waits: [u64; waits::FORMS],
 }
 
 impl Tally {
@@ -206,6 +209,7 @@ impl Tally {
         self.numbers.iter_mut().zip(other.numbers).for_each(|(a, b)| *a += b);
         self.codes.iter_mut().zip(other.codes).for_each(|(a, b)| *a += b);
         self.repeats.iter_mut().zip(other.repeats).for_each(|(a, b)| *a += b);
+        self.waits.iter_mut().zip(other.waits).for_each(|(a, b)| *a += b);
     }
 }
 
@@ -313,10 +317,10 @@ impl Pair {
         Ok(by_archive)
     }
 
-    /// 01: a call that does not refuse with 23 leaves a record in bounds with the same opening values.
+    /// 01: a call that does not refuse with 23 leaves a record in bounds with the same opening values, its first nine bytes.
     fn stays_in_bounds(&self, name: impl Fn() -> String, before: &[u8], number: u8) -> Verdict<()> {
         let in_bounds = || self.state().is_some_and(|state| state.in_bounds());
-        let holds = number == 23 || (in_bounds() && self.record()[..5] == before[..5]);
+        let holds = number == 23 || (in_bounds() && self.record()[..9] == before[..9]);
         expect(holds, || format!("{}: the next record is out of bounds", name()))
     }
 
@@ -335,10 +339,11 @@ impl Pair {
         self.both(|| format!("least length for {need}"), |side| (side.calls.least_length)(need))
     }
 
-    pub fn open(&mut self, own: u8, limit: u32, reading: u32) -> Verdict<u8> {
-        let size = self.sizes.record;
-        let name = || format!("open of {size} bytes with {own}, {limit}, {reading}");
-        let number = self.both(name, |side| (side.calls.open)(side.record.lent_mut(size), own, limit, reading))?;
+    pub fn open(&mut self, own: u8, limits: Limits, reading: u32) -> Verdict<u8> {
+        let (size, Limits { first, second }) = (self.sizes.record, limits);
+        let name = || format!("open of {size} bytes with {own}, {first}, {second}, {reading}");
+        let number =
+            self.both(name, |side| (side.calls.open)(side.record.lent_mut(size), own, first, second, reading))?;
         same!(self, name, record);
         self.tally.numbers[usize::from(number)] += 1;
         Ok(number)
@@ -417,6 +422,9 @@ impl Pair {
         }
         if let (0, Some(before)) = (number, calls::read_record(&record)) {
             self.count_forms(self.watch.reading(&before, reading, &given));
+            for form in waits::forms(&before, reading, &given) {
+                self.tally.waits[form] += 1;
+            }
         }
         Ok((number, given))
     }

@@ -17,6 +17,8 @@ pub enum Form {
     OtherMax,
     NewMark,
     Spared,
+    SparedByWait,
+    EndedByWait,
     EndedAtOnce,
     HandedOver,
     OtherPgn,
@@ -27,7 +29,7 @@ pub enum Form {
     Assurance,
 }
 
-pub const NAMES: [&str; 17] = [
+pub const NAMES: [&str; 19] = [
     "restart with nothing taken",
     "restart in mid-transfer",
     "restart with all segments in",
@@ -37,6 +39,8 @@ pub const NAMES: [&str; 17] = [
     "restart with another MAX SGMTS",
     "restart that moved the mark",
     "reading outlived by the new mark only",
+    "reading outlived by the restart's wait only",
+    "22 by the restart's wait only",
     "21 at once after a restart with all in",
     "hand-over after a restart",
     "14 by another PGN",
@@ -114,15 +118,21 @@ impl Watch {
         }
     }
 
-    /// Sessions with nothing taken since their restart that a reading left open, though the mark before the restart had run out.
+    /// Sessions with nothing taken since their restart for which a reading brought another thing than it would have with the mark, or
+    /// with the wait, from before the restart.
     pub fn reading(&self, before: &Receiver, reading: u32, given: &[Given]) -> Vec<Form> {
-        let is_spared = |slot: usize| {
-            let (Some(session), Some(former)) = (before.slots[slot], self.0[slot]) else {
-                return false;
-            };
-            let has_run_out = reading.wrapping_sub(former.mark) >= before.limit;
-            session.next == 1 && has_run_out && given[slot].code() == 0
+        let form = |slot: usize| {
+            let (session, former) = (before.slots[slot]?, self.0[slot]?);
+            let has_run_out = |mark: u32, wait| reading.wrapping_sub(mark) >= before.limits.in_force(wait);
+            let had_with_mark = has_run_out(former.mark, session.wait);
+            let had_with_wait = has_run_out(session.mark, former.wait);
+            match (session.next == 1, given[slot].code() != 0) {
+                (true, false) if had_with_mark => Some(Form::Spared),
+                (true, false) if had_with_wait => Some(Form::SparedByWait),
+                (true, true) if !had_with_wait => Some(Form::EndedByWait),
+                _ => None,
+            }
         };
-        (0..SLOTS).filter(|&slot| is_spared(slot)).map(|_| Form::Spared).collect()
+        (0..SLOTS).filter_map(form).collect()
     }
 }

@@ -4,6 +4,7 @@
 use crate::pair::{expect, Difference, Given, Pair, Verdict};
 use crate::random::Random;
 use rules::calls::Code;
+use rules::receiver::Limits;
 use std::fmt::Write;
 use std::fs;
 use std::path::{Path, PathBuf};
@@ -69,7 +70,7 @@ struct Run<'a> {
 
 impl Run<'_> {
     fn trace(&mut self, input: &[u8]) -> Verdict<()> {
-        let opened = self.pair.open(33, 1_250, 0)?;
+        let opened = self.pair.open(33, Limits::both(1_250), 0)?;
         expect(opened == 0, || "the program's opening was refused".into())?;
         let mut at = 0;
         while at < input.len() {

@@ -3,26 +3,26 @@
 
 use crate::frame::{self, DATA_LENGTHS};
 use crate::groups;
-use crate::receiver::{Answer, Ending, Key, Kind, Receiver, Session, SLOTS, SLOT_BYTES};
+use crate::receiver::{Answer, Ending, Key, Kind, Limits, Receiver, Session, Wait, SLOTS, SLOT_BYTES};
 use crate::sent::{self, Sent};
 use crate::Refusal;
 
-pub const RECORD_BYTES: usize = 249;
+pub const RECORD_BYTES: usize = 261;
 pub const ANSWER_BYTES: usize = 36;
 pub const ANSWERS_BYTES: usize = SLOTS * ANSWER_BYTES;
 pub const GROUPS_WORDS: usize = 48;
-const HEAD_BYTES: usize = 9;
-const SLOT_RECORD_BYTES: usize = 30;
+const HEAD_BYTES: usize = 13;
+const SLOT_RECORD_BYTES: usize = 31;
 
 pub fn least_length(need: usize) -> usize {
     frame::least_length(need).unwrap_or(255)
 }
 
-pub fn open(record: &mut [u8], own: u8, limit: u32, reading: u32) -> u8 {
+pub fn open(record: &mut [u8], own: u8, first: u32, second: u32, reading: u32) -> u8 {
     if record.len() != RECORD_BYTES {
         return Refusal::OutOfBounds.number();
     }
-    let (receiver, verdict) = Receiver::open(own, limit, reading);
+    let (receiver, verdict) = Receiver::open(own, Limits { first, second }, reading);
     record.fill(0);
     write_head(record, &receiver);
     verdict.map_or_else(Refusal::number, |()| 0)
@@ -133,8 +133,8 @@ pub fn read_record(record: &[u8]) -> Option<Receiver> {
     if record.len() != RECORD_BYTES {
         return None;
     }
-    let (own, limit, last_reading) = (record[0], word(&record[1..]), word(&record[5..]));
-    let mut receiver = Receiver { own, limit, last_reading, slots: [None; SLOTS] };
+    let limits = Limits { first: word(&record[1..]), second: word(&record[5..]) };
+    let mut receiver = Receiver { own: record[0], limits, last_reading: word(&record[9..]), slots: [None; SLOTS] };
     for (slot, bytes) in receiver.slots.iter_mut().zip(slot_records(record)) {
         *slot = match bytes[0] {
             0 => None,
@@ -155,6 +155,11 @@ fn read_session(bytes: &[u8]) -> Option<Session> {
         2 => Kind::Bam,
         _ => return None,
     };
+    let wait = match bytes[30] {
+        1 => Wait::First,
+        2 => Wait::Second,
+        _ => return None,
+    };
     Some(Session {
         kind,
         key: Key { sa: bytes[2], da: bytes[3], session: bytes[4] },
@@ -165,6 +170,7 @@ fn read_session(bytes: &[u8]) -> Option<Session> {
         next: word(&bytes[18..]),
         granted: word(&bytes[22..]),
         mark: word(&bytes[26..]),
+        wait,
     })
 }
 
@@ -190,14 +196,22 @@ pub(crate) fn write_changes(record: &mut [u8], before: &Receiver, after: &Receiv
 
 fn write_head(record: &mut [u8], receiver: &Receiver) {
     record[0] = receiver.own;
-    put_word(&mut record[1..], receiver.limit);
-    put_word(&mut record[5..], receiver.last_reading);
+    put_word(&mut record[1..], receiver.limits.first);
+    put_word(&mut record[5..], receiver.limits.second);
+    put_word(&mut record[9..], receiver.last_reading);
 }
 
 fn kind_code(kind: Kind) -> u8 {
     match kind {
         Kind::Rts => 1,
         Kind::Bam => 2,
+    }
+}
+
+fn wait_code(wait: Wait) -> u8 {
+    match wait {
+        Wait::First => 1,
+        Wait::Second => 2,
     }
 }
 
@@ -212,6 +226,7 @@ fn write_session(bytes: &mut [u8], session: &Session) {
     put_word(&mut bytes[18..], session.next);
     put_word(&mut bytes[22..], session.granted);
     put_word(&mut bytes[26..], session.mark);
+    bytes[30] = wait_code(session.wait);
 }
 
 /// Up to 9 the receiver's, from 10 on the sender's.

@@ -1,5 +1,5 @@
-//! 01 "Transfer frames" and "Life of a session", with E1 of 02, and E2 as far as a receiver by itself meets it: the receiver over a
-//! typed state.
+//! 01 "Transfer frames" and "Life of a session", with E1 and E4 of 02, and E2 as far as a receiver by itself meets it: the receiver
+//! over a typed state.
 
 use crate::frame::{self, is_pgn, is_reply, is_taken, number24, Carried, Route, GLOBAL};
 use crate::{groups, Refusal};
@@ -28,6 +28,36 @@ pub struct Key {
     pub session: u8,
 }
 
+/// 02 E4: which of its two waits a session is in.
+#[derive(Clone, Copy, Debug, PartialEq, Eq)]
+pub enum Wait {
+    /// Its announcement, or its latest segment, brought a CTS.
+    First,
+    /// Its latest segment brought none, or it is a broadcast.
+    Second,
+}
+
+/// A session ends once it has been silent for the limit of its wait, in milliseconds.
+#[derive(Clone, Copy, Debug, PartialEq, Eq)]
+pub struct Limits {
+    pub first: u32,
+    pub second: u32,
+}
+
+impl Limits {
+    /// The same for either wait.
+    pub const fn both(limit: u32) -> Limits {
+        Limits { first: limit, second: limit }
+    }
+
+    pub fn in_force(&self, wait: Wait) -> u32 {
+        match wait {
+            Wait::First => self.first,
+            Wait::Second => self.second,
+        }
+    }
+}
+
 #[derive(Clone, Copy, Debug, PartialEq, Eq)]
 pub struct Session {
     pub kind: Kind,
@@ -41,12 +71,13 @@ pub struct Session {
     /// The last segment granted; 0 in a broadcast that was opened here.
     pub granted: u32,
     pub mark: u32,
+    pub wait: Wait,
 }
 
 #[derive(Clone, Debug, PartialEq, Eq)]
 pub struct Receiver {
     pub own: u8,
-    pub limit: u32,
+    pub limits: Limits,
     pub last_reading: u32,
     pub slots: [Option<Session>; SLOTS],
 }
@@ -129,8 +160,8 @@ fn grant(max_segments: u8, left: u32) -> u32 {
     u32::from(max_segments).min(GRANT).min(left)
 }
 
-pub(crate) fn opening_ok(own: u8, limit: u32) -> bool {
-    own <= LARGEST_OWN && (1..=LARGEST_LIMIT).contains(&limit)
+pub(crate) fn opening_ok(own: u8, limits: &[u32]) -> bool {
+    own <= LARGEST_OWN && limits.iter().all(|limit| (1..=LARGEST_LIMIT).contains(limit))
 }
 
 impl Session {
@@ -160,7 +191,7 @@ impl Session {
 
     fn kind_in_bounds(&self, own: u8) -> bool {
         match self.kind {
-            Kind::Bam => self.key.da == GLOBAL,
+            Kind::Bam => self.key.da == GLOBAL && self.wait == Wait::Second,
             Kind::Rts => {
                 let grant_ok = if self.is_whole() {
                     self.granted == self.segments
@@ -179,16 +210,20 @@ impl Session {
 
 impl Receiver {
     /// The receiver that an opening gives. A refused one keeps what it was given, and is out of bounds for good.
-    pub fn open(own: u8, limit: u32, reading: u32) -> (Receiver, Result<(), Refusal>) {
-        let receiver = Receiver { own, limit, last_reading: reading, slots: [None; SLOTS] };
-        let verdict = if opening_ok(own, limit) { Ok(()) } else { Err(Refusal::OutOfBounds) };
+    pub fn open(own: u8, limits: Limits, reading: u32) -> (Receiver, Result<(), Refusal>) {
+        let receiver = Receiver { own, limits, last_reading: reading, slots: [None; SLOTS] };
+        let verdict = if receiver.opening_ok() { Ok(()) } else { Err(Refusal::OutOfBounds) };
         (receiver, verdict)
+    }
+
+    fn opening_ok(&self) -> bool {
+        opening_ok(self.own, &[self.limits.first, self.limits.second])
     }
 
     pub fn in_bounds(&self) -> bool {
         let open: Vec<&Session> = self.slots.iter().flatten().collect();
         let one_each = (1..open.len()).all(|i| open[..i].iter().all(|other| other.key != open[i].key));
-        opening_ok(self.own, self.limit) && one_each && open.iter().all(|session| session.in_bounds(self.own))
+        self.opening_ok() && one_each && open.iter().all(|session| session.in_bounds(self.own))
     }
 
     /// Takes one frame.
@@ -216,7 +251,7 @@ impl Receiver {
         let mut endings = [None; SLOTS];
         for (slot, ending) in self.slots.iter_mut().zip(&mut endings) {
             if let Some(session) = slot {
-                if reading.wrapping_sub(session.mark) >= self.limit {
+                if reading.wrapping_sub(session.mark) >= self.limits.in_force(session.wait) {
                     *ending = Some(session.ended_by(Refusal::Silence));
                     *slot = None;
                 }
@@ -290,7 +325,10 @@ impl Receiver {
 
     fn open_session(&mut self, slot: usize, key: Key, a: &Announcement) -> Answer {
         let count = grant(a.max_segments, a.segments);
-        let granted = if a.kind == Kind::Rts { count } else { 0 };
+        let (granted, wait) = match a.kind {
+            Kind::Rts => (count, Wait::First),
+            Kind::Bam => (0, Wait::Second),
+        };
         self.slots[slot] = Some(Session {
             kind: a.kind,
             key,
@@ -301,6 +339,7 @@ impl Receiver {
             next: 1,
             granted,
             mark: self.last_reading,
+            wait,
         });
         match a.kind {
             Kind::Rts => Answer::Grant { key, pgn: a.pgn, next: 1, count: count as u8 },
@@ -332,12 +371,13 @@ impl Receiver {
 
     /// Segment `n` of the session is in.
     fn bring_forward(&mut self, slot: usize, session: Session, n: u32) -> Answer {
-        let mut forward = Session { next: n + 1, mark: self.last_reading, ..session };
+        let mut forward = Session { next: n + 1, mark: self.last_reading, wait: Wait::Second, ..session };
         let left = session.segments - n;
         let grant_used_up = session.kind == Kind::Rts && n == session.granted;
         let answer = if grant_used_up && left > 0 {
             let count = grant(session.max_segments, left);
             forward.granted = n + count;
+            forward.wait = Wait::First;
             Answer::Grant { key: session.key, pgn: session.pgn, next: n + 1, count: count as u8 }
         } else {
             Answer::Taken { key: session.key, segment: n }

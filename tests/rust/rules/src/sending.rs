@@ -158,7 +158,7 @@ impl Sender {
         let open: Vec<&Transfer> = self.transfers.iter().flatten().collect();
         let key = |i: usize| (open[i].destination, open[i].session);
         let one_each = (1..open.len()).all(|i| (0..i).all(|other| key(other) != key(i)));
-        opening_ok(self.own, self.limit) && one_each && open.iter().all(|transfer| transfer.in_bounds(self.own))
+        opening_ok(self.own, &[self.limit]) && one_each && open.iter().all(|transfer| transfer.in_bounds(self.own))
     }
 
     fn judge_bounds(&self) -> Result<(), Refusal> {

@@ -35,7 +35,7 @@ returns-2 c =
     let at-if1 = at-before .before .before in
     let start = at-if1 .before .before in
     let a = start .args in
-    opened-put (a .own) (a .limit) (a .reading) (now (a .buffer)) (at-write-record .write-record .result)
+    opened-put (a .own) (record { first = a .first; second = a .second }) (a .reading) (now (a .buffer)) (at-write-record .write-record .result)
     (at-before .before .«open» .result .receiver) (c .acceptance-number .result) (at-write-record .write-record .last .1 .0) (at-if1 .if1 .left)
     (ap (λ (x : Opened). x .receiver) (at-before .before .«open» .ensures)) (at-write-record .write-record .ensures)
     (c .acceptance-number .ensures ∙ ap (λ (x : Opened). acceptanceNumber (x .answer)) (at-before .before .«open» .ensures))

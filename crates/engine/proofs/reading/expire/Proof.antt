@@ -25,7 +25,7 @@ same-length c = search needs
 returns : tie.Need-returns
 returns c = let a = c .before .before .before .before .before .args in
     let p = c .before .before .before .before .before .pre in
-    free-stays (now (a .buffer)) (a .i) (a .limit) (a .t) (p .0) (p .1) (p .2) (sym
+    free-stays (now (a .buffer)) (a .i) (a .limits) (a .t) (p .0) (p .1) (p .2) (sym
     (ap (λ (z : Slot). z .state) (c .before .before .slot-in .ensures)) ∙ c .enum-told .given .1)
 
 same-length-2 : tie.Need-same-length-2

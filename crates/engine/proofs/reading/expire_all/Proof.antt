@@ -15,16 +15,16 @@ use Rattle.engine.proofs.reading.expire_all.Statement.{statement}
 use Rattle.engine.proofs.reading.expire_all.Tie as tie
 
 abbrev Inv-loop : tie.InvT-loop
-Inv-loop buffer₀ limit t ends₀ i₀ buffer ends i =
+Inv-loop buffer₀ limits t ends₀ i₀ buffer ends i =
     (length buffer ≡ recordLength)
     × (length ends₀ ≡ 8)
     × (i ≤ 8)
-    × (ends ≡ filled (slotEnd limit t) (slotsAt buffer₀) ends₀ i)
-    × (take (slotPlace i) buffer ++ merged (drop i (piecesOf buffer₀)) (drop i (slotsAfter buffer₀ limit t)) ≡ take headLength buffer₀ ++ merged (piecesOf buffer₀) (slotsAfter buffer₀ limit t))
+    × (ends ≡ filled (slotEnd limits t) (slotsAt buffer₀) ends₀ i)
+    × (take (slotPlace i) buffer ++ merged (drop i (piecesOf buffer₀)) (drop i (slotsAfter buffer₀ limits t)) ≡ take headLength buffer₀ ++ merged (piecesOf buffer₀) (slotsAfter buffer₀ limits t))
     × (drop (slotPlace i) buffer ≡ drop (slotPlace i) buffer₀)
 
 abbrev μ-loop : tie.MeasureT-loop
-μ-loop buffer₀ limit t ends₀ i₀ buffer ends i = 8 - i
+μ-loop buffer₀ limits t ends₀ i₀ buffer ends i = 8 - i
 
 loop-holds : tie.Need-loop-holds Inv-loop μ-loop
 loop-holds c = (search needs, refl, search needs, refl, refl, refl)
@@ -34,7 +34,7 @@ expire-requires c κs = let a = c .before .before .before .before .args in
     let l = c .before .before .loop in (
       search needs,
       l .inv .0,
-      turn-good (now (a .buffer)) (a .limit) (a .t) (l .buffer) (l .i) (l .inv .0) (omega arith) (l .inv .5)
+      turn-good (now (a .buffer)) (a .limits) (a .t) (l .buffer) (l .i) (l .inv .0) (omega arith) (l .inv .5)
           (c .before .before .before .before .pre .1),
     )
 
@@ -53,14 +53,14 @@ loop-less c = search needs
 loop-again : tie.Need-loop-again Inv-loop μ-loop
 loop-again c = let a = c .before .before .before .before .before .before .before .args in
     let l = c .before .before .before .before .before .loop in (
-      turn-long (now (a .buffer)) (a .limit) (a .t) (l .buffer) (l .i) (l .inv .0) (omega arith) (l .inv .5) _ _ (c .before .before .expire .ensures),
+      turn-long (now (a .buffer)) (a .limits) (a .t) (l .buffer) (l .i) (l .inv .0) (omega arith) (l .inv .5) _ _ (c .before .before .expire .ensures),
       search needs,
       search needs,
-      turn-end (now (a .buffer)) (a .limit) (a .t) (l .buffer) (l .i) (l .inv .0) (omega arith) (l .inv .5) _ _
+      turn-end (now (a .buffer)) (a .limits) (a .t) (l .buffer) (l .i) (l .inv .0) (omega arith) (l .inv .5) _ _
           (c .before .before .expire .ensures) _ _ (l .inv .1) (l .inv .3),
-      turn-bytes (now (a .buffer)) (a .limit) (a .t) (l .buffer) (l .i) (l .inv .0)
+      turn-bytes (now (a .buffer)) (a .limits) (a .t) (l .buffer) (l .i) (l .inv .0)
           (omega arith) (l .inv .5) _ _ (c .before .before .expire .ensures) (l .inv .4),
-      turn-same (now (a .buffer)) (a .limit) (a .t) (l .buffer) (l .i)
+      turn-same (now (a .buffer)) (a .limits) (a .t) (l .buffer) (l .i)
           (l .inv .0) (omega arith) (l .inv .5) _ _ (c .before .before .expire .ensures),
     )
 
@@ -70,7 +70,7 @@ same-length c = search needs
 returns : tie.Need-returns Inv-loop μ-loop
 returns c = let a = c .before .before .before .args in
     let l = c .before .loop in
-    turns-done (now (a .buffer)) (a .limit) (a .t) (l .buffer) (l .i) (l .ends) (l .inv .0) (omega arith) (l .inv .3) (l .inv .4)
+    turns-done (now (a .buffer)) (a .limits) (a .t) (l .buffer) (l .i) (l .ends) (l .inv .0) (omega arith) (l .inv .3) (l .inv .4)
 
 pub expire-all-spec : {M : Type 1} → statement M
 expire-all-spec =

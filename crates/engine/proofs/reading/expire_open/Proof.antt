@@ -18,7 +18,7 @@ put-slot-requires c κs = search needs
 
 returns : tie.Need-returns
 returns c = let a = c .before .before .before .before .args in let p = c .before .before .before .before .pre in
-    open-stays (now (a .buffer)) (a .i) (a .limit) (a .t) (p .0) (p .1) (p .2) (a .s) (p .3) (c .before .before .at-reading .result) (c .before .before .at-reading .ensures)
+    open-stays (now (a .buffer)) (a .i) (a .limits) (a .t) (p .0) (p .1) (p .2) (a .s) (p .3) (c .before .before .at-reading .result) (c .before .before .at-reading .ensures)
     (c .enum-told .given .1)
 
 same-length : tie.Need-same-length
@@ -26,7 +26,7 @@ same-length c = search needs
 
 returns-2 : tie.Need-returns-2
 returns-2 c = let a = c .before .before .before .before .before .before .before .before .before .args in let p = c .before .before .before .before .before .before .before .before .before .pre in
-    open-ends (now (a .buffer)) (a .i) (a .limit) (a .t) (p .0) (p .1) (p .2) (a .s) (p .3) (c .before .before .before .before .before .before .before .at-reading .result)
+    open-ends (now (a .buffer)) (a .i) (a .limits) (a .t) (p .0) (p .1) (p .2) (a .s) (p .3) (c .before .before .before .before .before .before .before .at-reading .result)
     (c .before .before .before .before .before .before .before .at-reading .ensures) _
     (c .before .before .before .before .before .e .given .1)
     (c .before .before .put-slot .last .0)

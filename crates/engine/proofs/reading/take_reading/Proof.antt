@@ -15,8 +15,8 @@ returns : tie.Need-returns
 returns c = let a = c .before .before .before .before .before .args in
     reading-refused (now (a .buffer)) (a .t) (now (a .store)) (c .before .is-ready .result) (c .before .is-ready .ensures) (c .if1 .taken)
 
-word-at-requires : tie.Need-word-at-requires
-word-at-requires c κs = let a = c .before .before .before .before .before .before .args in
+limits-of-requires : tie.Need-limits-of-requires
+limits-of-requires c κs = let a = c .before .before .before .before .before .before .args in
     let l = reading-ready (now (a .buffer)) (a .t) (now (a .store)) (c .before .before .is-ready .result) (c .before .before .is-ready .ensures) (c .before .if1 .left) .long
     in
     omega (arith, l)
@@ -43,8 +43,8 @@ same-length-2 c = search needs
 returns-2 : tie.Need-returns-2
 returns-2 c =
     let at-expire-all = c .before .before .before .before .before .before in
-    let at-word-at = at-expire-all .before .before in
-    let at-if1 = at-word-at .before .before in
+    let at-limits-of = at-expire-all .before .before in
+    let at-if1 = at-limits-of .before .before in
     let at-is-ready = at-if1 .before in
     let at-slice-known = at-is-ready .before .before .before in
     let start = at-slice-known .before in
@@ -54,8 +54,8 @@ returns-2 c =
     (at-is-ready .is-ready .ensures) (at-if1 .if1 .left)
     (λ i. omega
     (arith, at-slice-known .slice-known .given i))
-    (at-word-at .word-at .result) (at-expire-all .expire-all .result)
-    (at-expire-all .expire-all .last .0) (c .before .before .put-last .last .0) (at-word-at .word-at .ensures)
+    (at-limits-of .limits-of .result) (at-expire-all .expire-all .result)
+    (at-expire-all .expire-all .last .0) (c .before .before .put-last .last .0) (at-limits-of .limits-of .ensures)
     (at-expire-all .expire-all .ensures) (c .before .before .put-last .ensures)
 
 pub take-reading-spec : {M : Type 1} → statement M
@@ -65,7 +65,7 @@ take-reading-spec =
     is-ready-requires
     same-length
     returns
-    word-at-requires
+    limits-of-requires
     expire-all-requires
     put-last-requires
     same-length-2

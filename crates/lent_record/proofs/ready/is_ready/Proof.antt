@@ -6,7 +6,7 @@ use borrow.Author.Tests.{eq-eqb, ne-eqb, not-true, not-false}
 use Rattle.laws.specs.Choice.{and-next, and-stop}
 use Rattle.record_bytes.specs.Places.{recordLength}
 use Rattle.record_bytes.specs.Layout.{piecesOf, recordAt}
-use Rattle.slots.specs.Bounds.{openingOk}
+use Rattle.slots.specs.Bounds.{valuesOk}
 use Rattle.frame.specs.declared.Address.{Address}
 use Rattle.lent_record.specs.Judged.{piecesReady, ready-in}
 use borrow.Author.Needs.{needs}
@@ -31,11 +31,11 @@ returns-2 c =
 shared-slice-read-t7 : tie.Need-shared-slice-read-t7
 shared-slice-read-t7 c = search needs
 
-word-at-requires : tie.Need-word-at-requires
-word-at-requires c κs = search needs
+limits-of-requires : tie.Need-limits-of-requires
+limits-of-requires c κs = search needs
 
-opening-ok-requires : tie.Need-opening-ok-requires
-opening-ok-requires c κs = search needs
+values-ok-requires : tie.Need-values-ok-requires
+values-ok-requires c κs = search needs
 
 returns-3 : tie.Need-returns-3
 returns-3 c =
@@ -44,7 +44,7 @@ returns-3 c =
     let own : Address = recordAt b .own in
     and-next (eqb (length (now (a .bytes))) recordLength) _ _ (eq-eqb _ _ (c .before .before .before .before .before .if1 .left))
     (and-next (eqb (a .store) 32768) _ _ (eq-eqb _ _ (c .before .before .before .before .if2 .left))
-    (and-stop _ (piecesReady own (piecesOf b)) (ap (openingOk own) (sym (c .before .before .word-at .ensures)) ∙ sym (c .before .opening-ok .ensures) ∙ not-true _ (c .if3 .taken))))
+    (and-stop _ (piecesReady own (piecesOf b)) (ap (valuesOk own) (sym (c .before .before .limits-of .ensures)) ∙ sym (c .before .values-ok .ensures) ∙ not-true _ (c .if3 .taken))))
     ∙ sym (ready-in (now (a .bytes)) (a .store))
 
 slots-ready-requires : tie.Need-slots-ready-requires
@@ -52,8 +52,8 @@ slots-ready-requires c κs = search needs
 
 returns-4 : tie.Need-returns-4
 returns-4 c =
-    let at-word-at = c .before .before .before in
-    let at-if2 = at-word-at .before .before in
+    let at-limits-of = c .before .before .before in
+    let at-if2 = at-limits-of .before .before in
     let at-if1 = at-if2 .before in
     let start = at-if1 .before .before in
     let a = start .args in
@@ -61,7 +61,7 @@ returns-4 c =
     let own : Address = recordAt b .own in
     and-next (eqb (length (now (a .bytes))) recordLength) _ _ (eq-eqb _ _ (at-if1 .if1 .left))
     (and-next (eqb (a .store) 32768) _ _ (eq-eqb _ _ (at-if2 .if2 .left))
-    (and-next _ _ _ (ap (openingOk own) (sym (at-word-at .word-at .ensures)) ∙ sym (c .before .before .opening-ok .ensures) ∙ not-false _ (c .before .if3 .left)) (c .slots-ready .ensures)))
+    (and-next _ _ _ (ap (valuesOk own) (sym (at-limits-of .limits-of .ensures)) ∙ sym (c .before .before .values-ok .ensures) ∙ not-false _ (c .before .if3 .left)) (c .slots-ready .ensures)))
     ∙ sym (ready-in (now (a .bytes)) (a .store))
 
 pub is-ready-spec : {M : Type 1} → statement M
@@ -72,8 +72,8 @@ is-ready-spec =
     mul-if2
     returns-2
     shared-slice-read-t7
-    word-at-requires
-    opening-ok-requires
+    limits-of-requires
+    values-ok-requires
     returns-3
     slots-ready-requires
     returns-4)

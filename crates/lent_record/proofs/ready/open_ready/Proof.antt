@@ -26,12 +26,18 @@ add-codes-ok c = search needs
 shared-slice-read-codes-ok-2 : tie.Need-shared-slice-read-codes-ok-2
 shared-slice-read-codes-ok-2 c = search needs
 
+add-codes-ok-2 : tie.Need-add-codes-ok-2
+add-codes-ok-2 c = search needs
+
+shared-slice-read-codes-ok-3 : tie.Need-shared-slice-read-codes-ok-3
+shared-slice-read-codes-ok-3 c = search needs
+
 codes-ok-requires : tie.Need-codes-ok-requires
 codes-ok-requires c κs = search needs
 
 returns : tie.Need-returns
 returns c =
-    let a = c .before .before .before .before .before .args in
+    let a = c .before .before .before .before .before .before .args in
     no-codes (a .own) (now (a .bytes)) (a .i) (search needs) _ (c .before .codes-ok .ensures) (not-true _ (c .if1 .taken))
 
 add-end : tie.Need-add-end
@@ -54,7 +60,7 @@ session-ok-requires c κs = search needs
 
 returns-2 : tie.Need-returns-2
 returns-2 c =
-    let a = c .before .before .before .before .before .before .before .before .before .args in
+    let a = c .before .before .before .before .before .before .before .before .before .before .args in
     let k : ℕ = slotPlace (a .i) in
     let e : k + slotLength - k ≡ slotLength = omega arith in
     no-bounds (a .own) (now (a .bytes)) (a .i) (search needs) _ (c .before .before .before .before .before .codes-ok .ensures) (not-false _ (c .before .before .before .before .if1 .left)) _ _
@@ -71,7 +77,7 @@ returns-3 c =
     let at-session-at = c .before .before .before in
     let at-if1 = at-session-at .before .before in
     let at-codes-ok = at-if1 .before in
-    let start = at-codes-ok .before .before .before .before in
+    let start = at-codes-ok .before .before .before .before .before in
     let a = start .args in
     let k : ℕ = slotPlace (a .i) in
     let e : k + slotLength - k ≡ slotLength = omega arith in
@@ -88,6 +94,8 @@ open-ready-spec =
     shared-slice-read-codes-ok
     add-codes-ok
     shared-slice-read-codes-ok-2
+    add-codes-ok-2
+    shared-slice-read-codes-ok-3
     codes-ok-requires
     returns
     add-end

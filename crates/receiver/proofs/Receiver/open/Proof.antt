@@ -11,16 +11,16 @@ use Rattle.receiver.proofs.Receiver.open.Tie as tie
 answering : (r : Receiver) (a b : Acceptance) → a ≡ b → _≡_ {A = Opened} (record { receiver = r; answer = a }) (record { receiver = r; answer = b })
 answering r a b e = rw e
 
-opening-ok-requires : tie.Need-opening-ok-requires
-opening-ok-requires c κs = search needs
+values-ok-requires : tie.Need-values-ok-requires
+values-ok-requires c κs = search needs
 
 returns : tie.Need-returns
 unfolding opened
-returns c = answering _ _ _ (then _ _ _ _ (sym (c .before .opening-ok .ensures) ∙ c .if1 .taken) refl)
+returns c = answering _ _ _ (then _ _ _ _ (sym (c .before .values-ok .ensures) ∙ c .if1 .taken) refl)
 
 returns-2 : tie.Need-returns-2
 unfolding opened
-returns-2 c = answering _ _ _ (else _ _ _ _ (sym (c .before .opening-ok .ensures) ∙ c .if1 .left) refl)
+returns-2 c = answering _ _ _ (else _ _ _ _ (sym (c .before .values-ok .ensures) ∙ c .if1 .left) refl)
 
 pub open-spec : {M : Type 1} → statement M
-open-spec = tie.close (tie.spec opening-ok-requires returns returns-2)
+open-spec = tie.close (tie.spec values-ok-requires returns returns-2)

@@ -1,79 +1,106 @@
 use mathlib.Core.Path.{_≡_, refl, sym, ap, _∙_}
-use mathlib.Core.Bool.{Bool, true, false, cond, _&&_}
+use mathlib.Core.Bool.{Bool, true, false, _&&_}
 use borrow.Author.Needs.{needs}
 use borrow.Author.Tests.{not-true, not-false}
 use Rattle.laws.specs.Bools.{and-same}
-use Rattle.session.specs.Bounds.{countsOk, takenHere, reachOk, sessionOk}
+use Rattle.slots.specs.ByKind.{kindOk}
+use Rattle.slots.proofs.Reach.{by-kind}
 use Rattle.slots.proofs.bounds.session_ok.Statement.{statement}
 use Rattle.slots.proofs.bounds.session_ok.Tie as tie
 
--- the three tests joined, those that the code did not come to as they are
-three : {a b c x y z : Bool} → a ≡ x → b ≡ y → c ≡ z → (a && b && c) ≡ (x && y && z)
-three p q r = and-same (and-same p q) r
+-- the four tests joined, those that the code did not come to as they are
+four : {a b c d x y z w : Bool} → a ≡ x → b ≡ y → c ≡ z → d ≡ w → (a && b && c && d) ≡ (x && y && z && w)
+four p q r s = and-same (and-same (and-same p q) r) s
 
-is-rts-requires : tie.Need-is-rts-requires
-is-rts-requires c κs = search needs
-
-counts-ok-requires : tie.Need-counts-ok-requires
-counts-ok-requires c κs = search needs
+numbers-ok-requires : tie.Need-numbers-ok-requires
+numbers-ok-requires c κs = search needs
 
 returns : tie.Need-returns
 returns c =
-    let s = c .before .before .before .before .before .args .s in
-    let a = s .announced in
-    three {a = false}
-    (sym (not-true _ (c .if1 .taken))
-    ∙ c .before .counts-ok .ensures
-    ∙ ap (λ (t : Bool). countsOk (a .total .0) (a .segments .0) (a .pgn) t (a .max)) (c .before .before .before .is-rts .ensures))
-    refl
-    refl
+    let a = c .before .before .before .before .before .args in
+    four {a = false} (sym (not-true _ (c .if1 .taken)) ∙ c .before .numbers-ok .ensures) refl refl refl
+    ∙ by-kind (a .own) (a .s)
 
-destination-requires : tie.Need-destination-requires
-destination-requires c κs = search needs
-
-key-ok-requires : tie.Need-key-ok-requires
-key-ok-requires c κs = search needs
+source-ok-requires : tie.Need-source-ok-requires
+source-ok-requires c κs = search needs
 
 returns-2 : tie.Need-returns-2
 returns-2 c =
-    let p = c .before .before .before .before .before .before .before .before .args in
-    let a = p .s .announced in
-    three {a = true} {b = false}
-    (sym (not-false _ (c .before .before .before .if1 .left))
-    ∙ c .before .before .before .before .counts-ok .ensures
-    ∙ ap (λ (t : Bool). countsOk (a .total .0) (a .segments .0) (a .pgn) t (a .max)) (c .before .before .before .before .before .before .is-rts .ensures))
-    (sym (not-true _ (c .if2 .taken))
-    ∙ c .before .key-ok .ensures
-    ∙ ap (λ da. takenHere (a .key) da (p .own)) (c .before .before .destination .ensures))
+    let numbers = c .before .before in
+    let a = numbers .before .before .before .before .before .args in
+    four {a = true} {b = false}
+    (sym (not-false _ (numbers .if1 .left)) ∙ numbers .before .numbers-ok .ensures)
+    (sym (not-true _ (c .if2 .taken)) ∙ c .before .source-ok .ensures)
     refl
+    refl
+    ∙ by-kind (a .own) (a .s)
 
-reach-ok-requires : tie.Need-reach-ok-requires
-reach-ok-requires c κs = search needs
+next-ok-requires : tie.Need-next-ok-requires
+next-ok-requires c κs = search needs
 
 returns-3 : tie.Need-returns-3
 returns-3 c =
-    let p = c .before .before .before .before .before .before .before .before .before .args in
-    let a = p .s .announced in
-    let g = p .s .progress in
-    let rts = c .before .before .before .before .before .before .before .is-rts .ensures in
-    three {a = true} {b = true}
-    (sym (not-false _ (c .before .before .before .before .if1 .left))
-    ∙ c .before .before .before .before .before .counts-ok .ensures
-    ∙ ap (λ (t : Bool). countsOk (a .total .0) (a .segments .0) (a .pgn) t (a .max)) rts)
-    (sym (not-false _ (c .before .if2 .left))
-    ∙ c .before .before .key-ok .ensures
-    ∙ ap (λ da. takenHere (a .key) da (p .own)) (c .before .before .before .destination .ensures))
-    (c .reach-ok .ensures ∙ ap (reachOk (g .next .0) (g .granted .0) (a .segments .0)) rts)
+    let source = c .before .before in
+    let numbers = source .before .before in
+    let a = numbers .before .before .before .before .before .args in
+    four {a = true} {b = true} {c = false}
+    (sym (not-false _ (numbers .if1 .left)) ∙ numbers .before .numbers-ok .ensures)
+    (sym (not-false _ (source .if2 .left)) ∙ source .before .source-ok .ensures)
+    (sym (not-true _ (c .if3 .taken)) ∙ c .before .next-ok .ensures)
+    refl
+    ∙ by-kind (a .own) (a .s)
+
+enum-told : tie.Need-enum-told
+enum-told c = search needs
+
+rts-ok-requires : tie.Need-rts-ok-requires
+rts-ok-requires c κs = search needs
+
+enum-told-2 : tie.Need-enum-told-2
+enum-told-2 c = search needs
+
+bam-ok-requires : tie.Need-bam-ok-requires
+bam-ok-requires c κs = search needs
+
+returns-4 : tie.Need-returns-4
+returns-4 c =
+    let next = c .before .before .before in
+    let source = next .before .before in
+    let numbers = source .before .before in
+    let a = numbers .before .before .before .before .before .args in
+    four {a = true} {b = true} {c = true}
+    (sym (not-false _ (numbers .if1 .left)) ∙ numbers .before .numbers-ok .ensures)
+    (sym (not-false _ (source .if2 .left)) ∙ source .before .source-ok .ensures)
+    (sym (not-false _ (next .if3 .left)) ∙ next .before .next-ok .ensures)
+    (c .rts-ok .ensures ∙ ap (kindOk (a .own) (a .s .announced) (a .s .progress)) (sym (c .before .enum-told .given .1)))
+    ∙ by-kind (a .own) (a .s)
+
+returns-5 : tie.Need-returns-5
+returns-5 c =
+    let next = c .before .before .before in
+    let source = next .before .before in
+    let numbers = source .before .before in
+    let a = numbers .before .before .before .before .before .args in
+    four {a = true} {b = true} {c = true}
+    (sym (not-false _ (numbers .if1 .left)) ∙ numbers .before .numbers-ok .ensures)
+    (sym (not-false _ (source .if2 .left)) ∙ source .before .source-ok .ensures)
+    (sym (not-false _ (next .if3 .left)) ∙ next .before .next-ok .ensures)
+    (c .bam-ok .ensures ∙ ap (kindOk (a .own) (a .s .announced) (a .s .progress)) (sym (c .before .enum-told2 .given .1)))
+    ∙ by-kind (a .own) (a .s)
 
 pub session-ok-spec : {M : Type 1} → statement M
 session-ok-spec =
     tie.close
     (tie.spec
-    is-rts-requires
-    counts-ok-requires
+    numbers-ok-requires
     returns
-    destination-requires
-    key-ok-requires
+    source-ok-requires
     returns-2
-    reach-ok-requires
-    returns-3)
+    next-ok-requires
+    returns-3
+    enum-told
+    rts-ok-requires
+    enum-told-2
+    bam-ok-requires
+    returns-4
+    returns-5)

@@ -1,5 +1,9 @@
 //! What the network brought.
 
+use crate::waits::Silence;
+use rules::receiver::Limits;
+use std::cmp::Ordering;
+
 /// What has to come up; `LEAST` says how often, in the same order.
 #[derive(Clone, Copy)]
 pub enum Met {
@@ -17,6 +21,12 @@ pub enum Met {
     SilentRts,
     SilentBroadcast,
     SilentSession,
+    FirstWaitSecondShorter,
+    FirstWaitSecondLonger,
+    SecondWaitSecondShorter,
+    SecondWaitSecondLonger,
+    OutlivedSecondLimit,
+    OutlivedFirstLimit,
     AbortedByResponder,
     AbortedByOriginator,
     NotAcknowledged,
@@ -31,7 +41,7 @@ pub enum Met {
     NodeToThird,
 }
 
-const LEAST: [(&str, u64); 26] = [
+const LEAST: [(&str, u64); 32] = [
     ("arrivals", 10_000),
     ("arrivals by BAM", 3_000),
     ("arrivals of a length at an edge", 3_000),
@@ -46,6 +56,12 @@ const LEAST: [(&str, u64); 26] = [
     ("RTS transfers silent", 200),
     ("broadcasts silent", 200),
     ("sessions silent", 200),
+    ("sessions silent in the first wait, the second limit shorter", 50),
+    ("sessions silent in the first wait, the second limit longer", 50),
+    ("sessions silent in the second wait, the second limit shorter", 50),
+    ("sessions silent in the second wait, the second limit longer", 50),
+    ("sessions in the first wait that outlived the second limit", 50),
+    ("sessions in the second wait that outlived the first limit", 50),
     ("Aborts by the responder", 200),
     ("Aborts by the originator", 200),
     ("arrivals not acknowledged", 50),
@@ -66,6 +82,31 @@ pub struct Counts([u64; LEAST.len()]);
 impl Counts {
     pub fn add(&mut self, met: Met) {
         self.0[met as usize] += 1;
+    }
+
+    /// A session ended at this reading. By the shorter limit it counts only where the longer one had not run out too.
+    pub fn silent(&mut self, silence: Silence, limits: Limits, reading: u32) {
+        self.add(Met::SilentSession);
+        let Limits { first, second } = limits;
+        let passed = silence.passed(reading);
+        match (silence.is_after_cts, second.cmp(&first)) {
+            (true, Ordering::Less) => self.add(Met::FirstWaitSecondShorter),
+            (true, Ordering::Greater) if passed < second => self.add(Met::FirstWaitSecondLonger),
+            (false, Ordering::Less) if passed < first => self.add(Met::SecondWaitSecondShorter),
+            (false, Ordering::Greater) => self.add(Met::SecondWaitSecondLonger),
+            _ => {}
+        }
+    }
+
+    /// A session stayed open at this reading, also where the other limit had run out.
+    pub fn outlived(&mut self, silence: Silence, limits: Limits, reading: u32) {
+        let passed = silence.passed(reading);
+        if silence.is_after_cts && passed >= limits.second {
+            self.add(Met::OutlivedSecondLimit);
+        }
+        if !silence.is_after_cts && passed >= limits.first {
+            self.add(Met::OutlivedFirstLimit);
+        }
     }
 
     fn of(&self, met: Met) -> u64 {

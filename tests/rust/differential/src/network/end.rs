@@ -1,12 +1,17 @@
 //! The two ends of the network and their clocks.
 
+use crate::limits;
 use crate::pair::{expect, Pair, Verdict};
 use crate::random::Random;
+use rules::receiver::Limits;
 
 /// Who it is, and what its clock shows.
 pub struct End<'a> {
     pub pair: &'a mut Pair,
     pub own: u8,
+    /// As a receiver.
+    pub limits: Limits,
+    /// As a sender.
     pub limit: u32,
     pub clock: u32,
     pub is_node: bool,
@@ -15,11 +20,12 @@ pub struct End<'a> {
 impl<'a> End<'a> {
     /// Opened as a receiver and as a sender, of which a network uses one.
     pub fn new(pair: &'a mut Pair, random: &mut Random, own: u8) -> Verdict<End<'a>> {
-        let (limit, clock, is_node) = (limit(random), start(random), random.once_in(2));
-        for number in [pair.open(own, limit, clock)?, pair.sender_open(own, limit, clock)?] {
+        let (limits, limit) = (limits::two(random, limit), limit(random));
+        let (clock, is_node) = (start(random), random.once_in(2));
+        for number in [pair.open(own, limits, clock)?, pair.sender_open(own, limit, clock)?] {
             expect(number == 0, || format!("{own} was not opened: {number}"))?;
         }
-        Ok(End { pair, own, limit, clock, is_node })
+        Ok(End { pair, own, limits, limit, clock, is_node })
     }
 }
 
@@ -32,7 +38,7 @@ fn limit(random: &mut Random) -> u32 {
     }
 }
 
-/// How far a clock may go on from `last` before the first of these marks is a silence; none where there is no mark.
+/// How far the sender's clock may go on from `last` before the first of these marks is a silence; none where there is no mark.
 pub fn slack(last: u32, limit: u32, marks: impl Iterator<Item = u32>) -> Option<u32> {
     marks.map(|mark| limit - 1 - last.wrapping_sub(mark)).min()
 }

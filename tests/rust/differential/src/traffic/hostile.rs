@@ -1,17 +1,19 @@
 //! Frames that nobody should send: identifiers, lengths and fields at random or just beside what is taken.
 
+use crate::limits;
 use crate::pair::{Pair, Verdict};
 use crate::random::Random;
 use crate::sender::{any_pgn, data_frame, good_max, good_pgn, good_total, identifier, Control, Frame, Line};
 use crate::sender::{CAN_LENGTHS, CONTROL, DATA, MULTI_PG};
-use rules::receiver::{Receiver, Session};
+use rules::receiver::{Limits, Receiver, Session};
 
 pub fn run(pair: &mut Pair, random: &mut Random, calls: u64) -> Verdict<()> {
     while pair.tally.calls < calls {
         let own = if random.once_in(2) { random.below(254) as u8 } else { random.pick(&[0, 1, 33, 252, 253]) };
-        pair.open(own, random.between(1, 60_000) as u32, random.u32())?;
+        let limits = limits::two(random, |random| random.between_u32(1, 60_000));
+        pair.open(own, limits, random.u32())?;
         for _ in 0..300 {
-            let state = pair.state().unwrap_or_else(|| Receiver::open(own, 1, 0).0);
+            let state = pair.state().unwrap_or_else(|| Receiver::open(own, Limits::both(1), 0).0);
             let frame = any_frame(random, &state);
             pair.frame(frame.id, &frame.bytes)?;
         }

@@ -23,7 +23,7 @@ pub struct Kind {
     pub run: fn(&mut Pair, &mut Random, u64) -> Verdict<()>,
 }
 
-pub const KINDS: [Kind; 23] = [
+pub const KINDS: [Kind; 24] = [
     Kind { name: "valid transfers", calls: 225_000, must_refuse: &[], run: network::valid },
     Kind { name: "interleaved senders", calls: 300_000, must_refuse: &[15, 22], run: network::interleaved },
     Kind {
@@ -46,12 +46,12 @@ pub const KINDS: [Kind; 23] = [
     Kind { name: "buffers of other lengths", calls: 90_000, must_refuse: &[23], run: records::other_lengths },
     Kind { name: "Multi-PG frames", calls: 225_000, must_refuse: &[1, 4, 5, 6, 7, 8], run: multi_pg::frames },
     Kind { name: "packing", calls: 225_000, must_refuse: &[8, 24], run: multi_pg::packing },
-    Kind { name: "least lengths and openings", calls: 75_000, must_refuse: &[23], run: small::lengths_and_openings },
+    Kind { name: "least lengths and openings", calls: 120_000, must_refuse: &[23], run: small::lengths_and_openings },
     Kind { name: "messages of any answer", calls: 90_000, must_refuse: &[], run: small::messages },
     Kind {
         name: "repeated announcements",
         calls: 225_000,
-        must_refuse: &[8, 11, 12, 13, 14, 15, 21, 22],
+        must_refuse: &[8, 11, 12, 13, 14, 15, 17, 18, 20, 21, 22],
         run: repeated::run,
     },
     Kind {
@@ -92,4 +92,5 @@ pub const KINDS: [Kind; 23] = [
         run: node::frames,
     },
     Kind { name: "node's damaged records", calls: 500_000, must_refuse: &[3, 16, 23, 27], run: node::damaged },
+    Kind { name: "records of any wait", calls: 200_000, must_refuse: &[22, 23], run: records::waits },
 ];

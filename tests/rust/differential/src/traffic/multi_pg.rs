@@ -4,6 +4,7 @@ use crate::pair::{expect, Pair, Verdict, RIGHT};
 use crate::random::Random;
 use crate::sender::{any_pgn, good_pgn, identifier, CAN_LENGTHS, MULTI_PG};
 use rules::calls::Code;
+use rules::receiver::Limits;
 
 /// Groups with their data, as an originator means them.
 struct Groups {
@@ -42,7 +43,7 @@ impl Groups {
 
 pub fn frames(pair: &mut Pair, random: &mut Random, calls: u64) -> Verdict<()> {
     let own = 33;
-    pair.open(own, 1_250, 0)?;
+    pair.open(own, Limits::both(1_250), 0)?;
     while pair.tally.calls < calls {
         let length = random.pick(&CAN_LENGTHS);
         let groups = Groups::within(random, length);

@@ -1,16 +1,18 @@
 //! Transfers of several originators at once: orderly, in each other's way, or damaged.
 
+use crate::limits;
 use crate::pair::{expect, Pair, Verdict};
 use crate::random::Random;
 use crate::sender::{Frame, Line, Transfer, CAN_LENGTHS};
 use rules::calls::Code;
+use rules::receiver::Limits;
 
 /// Whole transfers, up to four at once: all is taken, and each message is handed over as it was sent.
 pub fn valid(pair: &mut Pair, random: &mut Random, calls: u64) -> Verdict<()> {
     while pair.tally.calls < calls {
         let own = random.below(254) as u8;
         let mut clock = random.u32();
-        pair.open(own, random.between(40_000, 60_000) as u32, clock)?;
+        pair.open(own, limits::two(random, |random| random.between_u32(40_000, 60_000)), clock)?;
         let first = random.below(16);
         let lines: Vec<Line> = (0..4).map(|i| line_of(own, first, i)).collect();
         let mut transfers: Vec<Transfer> = lines.iter().map(|&line| Transfer::new(random, line)).collect();
@@ -50,14 +52,14 @@ struct Network {
     damage: usize,
     /// One call in so many is a reading.
     reading: usize,
-    limit: u32,
+    limits: Limits,
 }
 
 pub fn interleaved(pair: &mut Pair, random: &mut Random, calls: u64) -> Verdict<()> {
     while pair.tally.calls < calls {
         let lines = random.between(6, 12);
-        let limit = random.between(50, 5_000) as u32;
-        Network { lines, damage: 0, reading: 6, limit }.run(pair, random)?;
+        let limits = limits::two(random, |random| random.between_u32(50, 5_000));
+        Network { lines, damage: 0, reading: 6, limits }.run(pair, random)?;
     }
     Ok(())
 }
@@ -66,7 +68,8 @@ pub fn damaged(pair: &mut Pair, random: &mut Random, calls: u64) -> Verdict<()> 
     while pair.tally.calls < calls {
         let lines = random.between(1, 8);
         let damage = random.between(2, 12);
-        Network { lines, damage, reading: 12, limit: 4_000 }.run(pair, random)?;
+        let limits = limits::two(random, |random| random.between_u32(2_000, 6_000));
+        Network { lines, damage, reading: 12, limits }.run(pair, random)?;
     }
     Ok(())
 }
@@ -75,7 +78,8 @@ pub fn damaged(pair: &mut Pair, random: &mut Random, calls: u64) -> Verdict<()> 
 pub fn full(pair: &mut Pair, random: &mut Random, calls: u64) -> Verdict<()> {
     while pair.tally.calls < calls {
         let lines = random.between(9, 16);
-        Network { lines, damage: 60, reading: 40, limit: 60_000 }.run(pair, random)?;
+        let limits = limits::two(random, |random| random.pick(&[40_000, 60_000]));
+        Network { lines, damage: 60, reading: 40, limits }.run(pair, random)?;
     }
     Ok(())
 }
@@ -84,7 +88,7 @@ impl Network {
     fn run(&self, pair: &mut Pair, random: &mut Random) -> Verdict<()> {
         let own = random.below(254) as u8;
         let mut clock = random.u32();
-        pair.open(own, self.limit, clock)?;
+        pair.open(own, self.limits, clock)?;
         let first = random.below(16);
         let mut transfers: Vec<Transfer> =
             (0..self.lines).map(|i| Transfer::new(random, line_of(own, first, i))).collect();
@@ -111,9 +115,9 @@ impl Network {
                 *transfer = Transfer::new(random, transfer.line);
             }
             if random.once_in(self.reading) {
-                let silent = random.once_in(8);
-                let passed = if silent { random.below(2 * self.limit as usize) } else { random.below(20) };
-                clock = clock.wrapping_add(passed as u32);
+                let is_silent = random.once_in(8);
+                let passed = if is_silent { limits::silence(random, self.limits) } else { random.between_u32(0, 19) };
+                clock = clock.wrapping_add(passed);
                 pair.reading(clock)?;
             }
         }

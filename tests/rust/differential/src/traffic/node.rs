@@ -1,21 +1,23 @@
 //! Frames at a node: for either end, and with either record, or a buffer, that is not as it must be.
 
+use crate::limits;
 use crate::pair::{Pair, Verdict, RIGHT};
 use crate::random::Random;
 use crate::sender::Frame;
 use crate::traffic::clock;
 use crate::traffic::hostile::any_frame;
+use crate::traffic::records;
 use crate::traffic::replies::any_reply;
 use crate::traffic::sender_records;
 use crate::traffic::sending::{announce, ask, limit, next_reading, own, POOL_BYTES};
-use rules::receiver::Receiver;
+use rules::receiver::{Limits, Receiver, SLOTS};
 
 /// Both ends at one address, each with transfers of its own.
 pub fn frames(pair: &mut Pair, random: &mut Random, calls: u64) -> Verdict<()> {
     let pool = random.bytes(POOL_BYTES);
     while pair.tally.calls < calls {
         let own = own(random);
-        pair.open(own, limit(random), random.u32())?;
+        pair.open(own, limits::two(random, limit), random.u32())?;
         pair.sender_open(own, limit(random), random.u32())?;
         for _ in 0..400 {
             any_call(pair, random, &pool)?;
@@ -30,7 +32,7 @@ fn frame_for_either(pair: &Pair, random: &mut Random) -> Frame {
         any_reply(random, &pair.sender_state())
     } else {
         let own = pair.record()[0];
-        any_frame(random, &pair.state().unwrap_or_else(|| Receiver::open(own, 1, 0).0))
+        any_frame(random, &pair.state().unwrap_or_else(|| Receiver::open(own, Limits::both(1), 0).0))
     }
 }
 
@@ -56,7 +58,7 @@ pub fn damaged(pair: &mut Pair, random: &mut Random, calls: u64) -> Verdict<()> 
     let pool = random.bytes(POOL_BYTES);
     while pair.tally.calls < calls {
         let own = own(random);
-        pair.open(own, limit(random), random.u32())?;
+        pair.open(own, limits::two(random, limit), random.u32())?;
         let senders_own = if random.once_in(4) { self::own(random) } else { own };
         pair.sender_open(senders_own, limit(random), random.u32())?;
         for _ in 0..random.between(1, 40) {
@@ -77,15 +79,13 @@ pub fn damaged(pair: &mut Pair, random: &mut Random, calls: u64) -> Verdict<()> 
 fn damage(pair: &mut Pair, random: &mut Random) {
     let which = random.below(8);
     if which == 0 || which == 6 {
-        let mut record: [u8; RIGHT.record] = pair.record().try_into().expect("of that length");
-        record[random.below(RIGHT.record)] ^= 1 << random.below(8);
-        pair.set_record(&record);
+        turn_bit(pair, random);
     }
     if which == 1 || which == 6 {
         sender_records::turn_bits(pair, random);
     }
     if which == 2 || which == 7 {
-        pair.sizes.record = random.pick(&[0, 1, 9, 113, 248, 250, 300]);
+        pair.sizes.record = random.pick(&[0, 1, 13, 113, 249, 260, 262, 300]);
     }
     if which == 3 || which == 7 {
         pair.sizes.sender = random.pick(&[0, 1, 9, 112, 114, 160]);
@@ -96,4 +96,16 @@ fn damage(pair: &mut Pair, random: &mut Random) {
     if which == 5 || (which == 7 && random.once_in(3)) {
         pair.sizes.answer = random.pick(&[0, 1, 35, 37, 72]);
     }
+}
+
+/// Of the receiver's record: anywhere, in the second limit, or in the wait of a slot.
+fn turn_bit(pair: &mut Pair, random: &mut Random) {
+    let mut record: [u8; RIGHT.record] = pair.record().try_into().expect("of that length");
+    let at = match random.below(4) {
+        0 => random.between(5, 8),
+        1 => records::wait_at(random.below(SLOTS)),
+        _ => random.below(RIGHT.record),
+    };
+    record[at] ^= 1 << random.below(8);
+    pair.set_record(&record);
 }

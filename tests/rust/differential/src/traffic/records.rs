@@ -1,23 +1,30 @@
 //! Records that no receiver of ours wrote, and buffers that are not of their length.
 
-use crate::pair::{Pair, Sizes, Verdict, RIGHT};
+use crate::limits;
+use crate::pair::{expect, Pair, Sizes, Verdict, RIGHT};
 use crate::random::Random;
 use crate::sender::{any_pgn, good_max, good_pgn, good_total};
 use crate::traffic::clock::next_reading;
 use crate::traffic::hostile::any_frame;
+use crate::traffic::small::any_limit;
 use rules::calls::{write_record, RECORD_BYTES};
-use rules::receiver::{Key, Kind, Receiver, Session, SLOTS};
+use rules::receiver::{Key, Kind, Limits, Receiver, Session, Wait, SLOTS};
 
 /// Where slot `i` starts in a record, and how long it is.
 fn slot_at(i: usize) -> std::ops::Range<usize> {
-    9 + 30 * i..39 + 30 * i
+    13 + 31 * i..44 + 31 * i
+}
+
+/// Where slot `i` has its wait.
+pub fn wait_at(i: usize) -> usize {
+    slot_at(i).start + 30
 }
 
 /// A few calls on the record that is there, whatever it is.
 fn calls_on(pair: &mut Pair, random: &mut Random) -> Verdict<()> {
     let own = pair.record()[0];
     for _ in 0..random.between(1, 6) {
-        let state = pair.state().unwrap_or_else(|| Receiver::open(own, 1_250, 0).0);
+        let state = pair.state().unwrap_or_else(|| Receiver::open(own, Limits::both(1_250), 0).0);
         if random.once_in(6) {
             pair.reading(next_reading(random, &state))?;
         } else {
@@ -28,17 +35,24 @@ fn calls_on(pair: &mut Pair, random: &mut Random) -> Verdict<()> {
     Ok(())
 }
 
+/// The bytes before slot 0, after a good opening.
+fn good_head(random: &mut Random) -> Vec<u8> {
+    let limits = limits::two(random, |random| random.between_u32(1, 60_000));
+    let opening = Receiver::open(random.below(254) as u8, limits, random.u32()).0;
+    write_record(&opening)[..slot_at(0).start].to_vec()
+}
+
 pub fn any_bytes(pair: &mut Pair, random: &mut Random, calls: u64) -> Verdict<()> {
     while pair.tally.calls < calls {
         let mut record = [0; RECORD_BYTES];
         random.fill(&mut record);
-        // A good opening, with codes that are nearly right: the second byte of a free slot has no meaning.
+        // A good opening, with codes that are nearly right: kind and wait of a free slot have no meaning.
         if random.once_in(2) {
-            let opening = Receiver::open(random.below(254) as u8, random.between(1, 60_000) as u32, random.u32()).0;
-            record[..9].copy_from_slice(&write_record(&opening)[..9]);
+            record[..slot_at(0).start].copy_from_slice(&good_head(random));
             for i in 0..SLOTS {
                 record[slot_at(i).start] = if random.once_in(16) { random.pick(&[1, 2, 128, 255]) } else { 0 };
                 record[slot_at(i).start + 1] = random.pick(&[0, 1, 2, 3, 255]);
+                record[wait_at(i)] = random.pick(&[0, 1, 2, 3, 255]);
             }
         }
         pair.set_record(&record);
@@ -51,11 +65,11 @@ pub fn any_fields(pair: &mut Pair, random: &mut Random, calls: u64) -> Verdict<(
     while pair.tally.calls < calls {
         let mut record = [0; RECORD_BYTES];
         random.fill(&mut record);
-        let opening = Receiver::open(random.below(254) as u8, random.between(1, 60_000) as u32, random.u32()).0;
-        record[..9].copy_from_slice(&write_record(&opening)[..9]);
+        record[..slot_at(0).start].copy_from_slice(&good_head(random));
         for i in 0..SLOTS {
             record[slot_at(i).start] = u8::from(random.once_in(8));
             record[slot_at(i).start + 1] = random.pick(&[1, 2]);
+            record[wait_at(i)] = random.pick(&[1, 2]);
         }
         pair.set_record(&record);
         calls_on(pair, random)?;
@@ -90,8 +104,8 @@ fn set_state(pair: &mut Pair, random: &mut Random, state: &Receiver) {
 
 fn in_bounds(random: &mut Random) -> Receiver {
     let own = if random.once_in(2) { random.below(254) as u8 } else { random.pick(&[0, 1, 33, 252, 253]) };
-    let limit = random.pick(&[1, 2, 1_250, 59_999, 60_000]);
-    let mut state = Receiver::open(own, limit, random.u32()).0;
+    let limits = limits::two(random, |random| random.pick(&[1, 2, 750, 1_250, 59_999, 60_000]));
+    let mut state = Receiver::open(own, limits, random.u32()).0;
     let open = random.pick(&[1, 2, 4, 7, 8, 8]);
     for i in 0..open {
         let slot = if open == 8 { i } else { random.below(SLOTS) };
@@ -118,8 +132,10 @@ fn session_in_bounds(random: &mut Random, state: &Receiver) -> Session {
         Kind::Rts => (good_max(random), random.pick(&[latest, segments, any_granted])),
         Kind::Bam => (random.byte(), random.u32() >> random.below(32)),
     };
+    // Of an RTS each wait goes with any segments taken.
+    let wait = if kind == Kind::Rts { random.pick(&[Wait::First, Wait::Second]) } else { Wait::Second };
     let marks = [0, u32::MAX, random.u32(), state.last_reading];
-    let silent = random.below(state.limit as usize) as u32;
+    let silent = random.below(state.limits.in_force(wait) as usize) as u32;
     let mark = if random.once_in(6) { random.pick(&marks) } else { state.last_reading.wrapping_sub(silent) };
     Session {
         kind,
@@ -131,6 +147,7 @@ fn session_in_bounds(random: &mut Random, state: &Receiver) -> Session {
         next,
         granted,
         mark,
+        wait,
     }
 }
 
@@ -141,7 +158,7 @@ fn break_one_field(random: &mut Random, state: &mut Receiver) {
     let doubled = state.slots[random.pick(&open)];
     if let Some(session) = &mut state.slots[at] {
         let is_rts = session.kind == Kind::Rts;
-        match random.below(16) {
+        match random.below(18) {
             0 => session.total_bytes = random.pick(&[0, 4097, 4140, u32::MAX, session.total_bytes + 60]),
             1 => session.segments = random.pick(&[0, session.segments + 1, session.segments - 1, u32::MAX]),
             2 => session.total_bytes = random.pick(&[60 * session.segments, 60 * session.segments - 59]),
@@ -155,8 +172,11 @@ fn break_one_field(random: &mut Random, state: &mut Receiver) {
             10 => session.granted = random.pick(&[0, session.next.wrapping_sub(1), session.next, u32::MAX]),
             11 => session.granted = random.pick(&[session.segments, session.segments + 1]),
             12 => session.kind = if is_rts { Kind::Bam } else { Kind::Rts },
-            13 => state.limit = random.pick(&[0, 60_001, u32::MAX, 65_536]),
-            14 => state.own = random.pick(&[254, 255, own.wrapping_add(1)]),
+            13 => state.limits.first = random.pick(&[0, 60_001, u32::MAX, 65_536]),
+            14 => state.limits.second = random.pick(&[0, 60_001, u32::MAX, 65_536]),
+            // Out of bounds in a broadcast.
+            15 => session.wait = if session.wait == Wait::First { Wait::Second } else { Wait::First },
+            16 => state.own = random.pick(&[254, 255, own.wrapping_add(1)]),
             _ => {
                 let other = random.below(SLOTS);
                 if other != at {
@@ -164,6 +184,43 @@ fn break_one_field(random: &mut Random, state: &mut Receiver) {
                 }
             }
         }
+    }
+}
+
+/// Records in bounds, then with any byte as the wait of one slot: what is 23, and by which limit the session ends.
+pub fn waits(pair: &mut Pair, random: &mut Random, calls: u64) -> Verdict<()> {
+    while pair.tally.calls < calls {
+        let state = in_bounds(random);
+        let byte = if random.once_in(3) { random.byte() } else { random.pick(&[0, 1, 1, 2, 2, 3]) };
+        let slot = random.below(SLOTS);
+        let (reading, number, ends) = wait_of(random, &state, slot, byte);
+        set_state(pair, random, &state);
+        let mut record: [u8; RECORD_BYTES] = pair.record().try_into().expect("of that length");
+        record[wait_at(slot)] = byte;
+        pair.set_record(&record);
+        let (given, endings) = pair.reading(reading)?;
+        let has_ended = endings[slot].number() == 22;
+        let told =
+            || format!("wait {byte} in slot {slot} of {state:?}, reading {reading}: {given}, ended: {has_ended}");
+        expect(given == number && has_ended == ends, told)?;
+        calls_on(pair, random)?;
+    }
+    Ok(())
+}
+
+/// With this byte as the wait of this slot: a reading at the edge of either limit, what number it has to bring, and whether it has to end
+/// the session there.
+fn wait_of(random: &mut Random, state: &Receiver, slot: usize, byte: u8) -> (u32, u8, bool) {
+    let Some(session) = state.slots[slot] else {
+        return (random.u32(), 0, false);
+    };
+    let Limits { first, second } = state.limits;
+    let passed = random.pick(&[first - 1, first, second - 1, second]);
+    let reading = session.mark.wrapping_add(passed);
+    match (session.kind, byte) {
+        (Kind::Rts, 1) => (reading, 0, passed >= first),
+        (_, 2) => (reading, 0, passed >= second),
+        _ => (reading, 23, false),
     }
 }
 
@@ -178,7 +235,7 @@ pub fn other_lengths(pair: &mut Pair, random: &mut Random, calls: u64) -> Verdic
             pair.frame_raw(frame.id, &frame.bytes)?;
             pair.reading(next_reading(random, &state))?;
             pair.groups(&frame.bytes)?;
-            pair.open(random.byte(), random.u32() >> random.below(32), random.u32())?;
+            pair.open(random.byte(), limits::two(random, any_limit), random.u32())?;
             pair.sizes = RIGHT;
             set_state(pair, random, &state);
         }
@@ -192,7 +249,7 @@ fn other_sizes(random: &mut Random) -> Sizes {
     let mut sizes = RIGHT;
     let which = random.below(6);
     if which == 0 || which == 5 {
-        sizes.record = random.pick(&[0, 1, 9, 39, 219, 248, 250, 279, 300]);
+        sizes.record = random.pick(&[0, 1, 13, 44, 230, 249, 260, 262, 292, 300]);
     }
     if which == 1 || which == 5 {
         sizes.store = random.pick(&[0, 1, 4096, 28_672, 32_767, 32_769, 36_864]);

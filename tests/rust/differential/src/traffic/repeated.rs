@@ -1,37 +1,46 @@
 //! Announcements for keys that are open (02 E1). Each originator knows what every frame of its own has to bring, and when its session
-//! has to end by silence. There may be more of them than slots. Each form of such an announcement has to come up here.
+//! has to end by silence, in either wait (02 E4), which a refused segment does not change. There may be more of them than slots. Each
+//! form of such an announcement has to come up here.
 
+use crate::limits;
 use crate::pair::{expect, Given, Pair, Verdict};
 use crate::random::Random;
 use crate::repeats;
-use crate::sender::{Control, Frame, Line, Transfer};
+use crate::sender::{Control, Frame, Line, Transfer, CAN_LENGTHS};
 use crate::traffic::network::line_of;
+use crate::waits::Silence;
 use rules::calls::Code;
-use rules::receiver::Key;
+use rules::receiver::{Key, Limits};
 
 struct Originator {
     transfer: Transfer,
-    is_open: bool,
-    /// The last reading before its latest frame that was taken.
-    mark: u32,
+    /// None where its session is not open.
+    silence: Option<Silence>,
+}
+
+/// What the receiver was opened with, and its last reading.
+#[derive(Clone, Copy)]
+struct Clock {
+    limits: Limits,
+    last: u32,
 }
 
 pub fn run(pair: &mut Pair, random: &mut Random, calls: u64) -> Verdict<()> {
     while pair.tally.calls < calls {
         let own = random.below(254) as u8;
-        let limit = random.between(100, 4_000);
-        let mut clock = random.u32();
-        pair.open(own, limit as u32, clock)?;
+        let limits = limits::two(random, |random| random.between_u32(100, 4_000));
+        let mut clock = Clock { limits, last: random.u32() };
+        pair.open(own, limits, clock.last)?;
         let first = random.below(16);
         let lines = random.pick(&[2, 6, 8, 9, 10]);
         let mut originators: Vec<Originator> =
             (0..lines).map(|i| Originator::new(random, line_of(own, first, i))).collect();
         for _ in 0..400 {
-            let is_full = originators.iter().filter(|originator| originator.is_open).count() == 8;
+            let is_full = originators.iter().filter(|originator| originator.silence.is_some()).count() == 8;
             originators[random.below(lines)].turn(pair, random, clock, is_full)?;
             if random.once_in(5) {
-                clock = clock.wrapping_add(random.below(limit / 3) as u32);
-                reading(pair, &mut originators, clock, limit as u32)?;
+                clock.last = clock.last.wrapping_add(passed(random, &originators, clock));
+                reading(pair, &mut originators, clock.last)?;
             }
         }
     }
@@ -39,27 +48,39 @@ pub fn run(pair: &mut Pair, random: &mut Random, calls: u64) -> Verdict<()> {
     expect(missing.is_empty(), || format!("never came up: {}", missing.join(", ")))
 }
 
-fn reading(pair: &mut Pair, originators: &mut [Originator], clock: u32, limit: u32) -> Verdict<()> {
-    let (_, endings) = pair.reading(clock)?;
-    for originator in originators.iter_mut().filter(|originator| originator.is_open) {
+/// Mostly a little; else to where the silence of one that is open has just run out, or has just not.
+fn passed(random: &mut Random, originators: &[Originator], clock: Clock) -> u32 {
+    let open: Vec<Silence> = originators.iter().filter_map(|originator| originator.silence).collect();
+    if open.is_empty() || !random.once_in(6) {
+        return random.below(limits::shorter(clock.limits) as usize / 3) as u32;
+    }
+    random.pick(&open).slack(clock.last) + u32::from(random.once_in(2))
+}
+
+fn reading(pair: &mut Pair, originators: &mut [Originator], reading: u32) -> Verdict<()> {
+    let (_, endings) = pair.reading(reading)?;
+    for originator in originators {
+        let Some(silence) = originator.silence else {
+            continue;
+        };
         let Line { sa, da, session } = originator.transfer.line;
         let has_ended = endings.iter().any(|given| given.number() == 22 && given.0[2..5] == [sa, da, session]);
-        let is_due = clock.wrapping_sub(originator.mark) >= limit;
-        let told = || format!("reading {clock}: {sa} {da} {session} ended: {has_ended}, by its mark: {is_due}");
-        expect(has_ended == is_due, told)?;
-        originator.is_open = !has_ended;
+        let told =
+            || format!("reading {reading}: {sa} {da} {session} ended: {has_ended}, by its reckoning {silence:?}");
+        expect(has_ended == silence.has_run_out(reading), told)?;
+        originator.silence = (!has_ended).then_some(silence);
     }
     Ok(())
 }
 
 impl Originator {
     fn new(random: &mut Random, line: Line) -> Originator {
-        Originator { transfer: Transfer::new(random, line), is_open: false, mark: 0 }
+        Originator { transfer: Transfer::new(random, line), silence: None }
     }
 
     /// Mostly the transfer goes on; where all segments are in, an announcement is as likely as the end.
-    fn turn(&mut self, pair: &mut Pair, random: &mut Random, clock: u32, is_full: bool) -> Verdict<()> {
-        if !self.is_open {
+    fn turn(&mut self, pair: &mut Pair, random: &mut Random, clock: Clock, is_full: bool) -> Verdict<()> {
+        if self.silence.is_none() {
             return self.announce(pair, random, clock, is_full);
         }
         let turns = if self.transfer.is_whole() { 8 } else { 24 };
@@ -68,21 +89,29 @@ impl Originator {
             0..=2 => self.key_is_open(pair, random),
             3 => self.bad_form(pair, random),
             4 | 5 if self.transfer.made == 1 => self.end_at_once(pair, random),
+            6 => self.bad_segment(pair, random),
             _ => self.go_on(pair, random, clock),
         }
     }
 
-    fn announce(&mut self, pair: &mut Pair, random: &mut Random, clock: u32, is_full: bool) -> Verdict<()> {
+    /// The answer was to a frame that was taken: its silence counts from here.
+    fn taken(&mut self, given: &Given, clock: Clock) {
+        self.silence = Some(Silence::after(given, clock.last, clock.limits));
+    }
+
+    fn announce(&mut self, pair: &mut Pair, random: &mut Random, clock: Clock, is_full: bool) -> Verdict<()> {
         self.transfer = Transfer::new(random, self.transfer.line);
         let Frame { id, bytes } = self.transfer.next(random);
-        let number = pair.frame(id, &bytes)?.number();
+        let given = pair.frame(id, &bytes)?;
+        let number = given.number();
         expect(number == if is_full { 15 } else { 0 }, || format!("a first announcement was answered by {number}"))?;
-        self.is_open = !is_full;
-        self.mark = clock;
+        if !is_full {
+            self.taken(&given, clock);
+        }
         Ok(())
     }
 
-    fn restart(&mut self, pair: &mut Pair, random: &mut Random, clock: u32) -> Verdict<()> {
+    fn restart(&mut self, pair: &mut Pair, random: &mut Random, clock: Clock) -> Verdict<()> {
         let (slot, store) = (self.slot(pair), pair.store().to_vec());
         self.transfer = self.transfer.anew(random);
         let Frame { id, bytes } = self.transfer.next(random);
@@ -90,7 +119,7 @@ impl Originator {
         expect(self.is_cts(&given), || format!("a repeated RTS was answered by {:02X?}", given.0))?;
         expect(self.slot(pair) == slot, || "a repeated RTS has moved its session".into())?;
         expect(pair.store() == store, || "a repeated RTS has changed the store".into())?;
-        self.mark = clock;
+        self.taken(&given, clock);
         Ok(())
     }
 
@@ -132,37 +161,70 @@ impl Originator {
         self.refused(pair, random, &again, number)
     }
 
-    /// The announcement is refused with this number, and record and store stay.
+    /// With a format indicator, a number that is 0 or already taken, or too short for the data due.
+    fn bad_segment(&self, pair: &mut Pair, random: &mut Random) -> Verdict<()> {
+        let next = self.transfer.made;
+        let mut frame = self.transfer.segment(random, next);
+        let due = self.transfer.message.chunks(60).nth(next as usize - 1).unwrap_or_default().len();
+        let too_short: Vec<usize> = CAN_LENGTHS.into_iter().filter(|length| (5..4 + due).contains(length)).collect();
+        let number = match random.below(3) {
+            0 => {
+                frame.bytes[0] |= random.between(1, 15) as u8;
+                17
+            }
+            1 if !too_short.is_empty() => {
+                frame.bytes.truncate(random.pick(&too_short));
+                20
+            }
+            _ => {
+                frame = self.transfer.segment(random, 1);
+                frame.bytes[1] = random.below(next as usize) as u8;
+                18
+            }
+        };
+        let given = self.stays(pair, &frame, number)?;
+        expect(given.sent().is_none(), || format!("a refused segment was answered by {:02X?}", given.0))
+    }
+
+    /// The announcement is refused with this number.
     fn refused(&self, pair: &mut Pair, random: &mut Random, again: &Control, number: u8) -> Verdict<()> {
-        let Frame { id, bytes } = again.frame(random, self.transfer.line);
+        let frame = again.frame(random, self.transfer.line);
+        let given = self.stays(pair, &frame, number)?;
+        let told = || format!("an announcement for an open key was answered by {:02X?}", given.0);
+        expect(given.sent().is_some() == self.transfer.is_rts, told)
+    }
+
+    /// The frame is refused with this number, and record and store stay.
+    fn stays(&self, pair: &mut Pair, Frame { id, bytes }: &Frame, number: u8) -> Verdict<Given> {
         let before = (pair.record().to_vec(), pair.store().to_vec());
-        let given = pair.frame(id, &bytes)?;
-        let told = || format!("an announcement due {number} for an open key was answered by {:02X?}", given.0);
-        expect(given.number() == number && given.sent().is_some() == self.transfer.is_rts, told)?;
+        let given = pair.frame(*id, bytes)?;
+        let told = || format!("{bytes:02X?}, which is due {number}, was answered by {:02X?}", given.0);
+        expect(given.number() == number, told)?;
         let is_same = pair.record() == before.0 && pair.store() == before.1;
-        expect(is_same, || format!("refused by {number}, but the record or the store has changed"))
+        expect(is_same, || format!("refused by {number}, but the record or the store has changed"))?;
+        Ok(given)
     }
 
     /// EOMS with nothing taken since the announcement.
     fn end_at_once(&mut self, pair: &mut Pair, random: &mut Random) -> Verdict<()> {
         let Frame { id, bytes } = self.transfer.status().frame(random, self.transfer.line);
         let number = pair.frame(id, &bytes)?.number();
-        self.is_open = false;
+        self.silence = None;
         expect(number == 21, || format!("an end with nothing taken was answered by {number}"))
     }
 
-    fn go_on(&mut self, pair: &mut Pair, random: &mut Random, clock: u32) -> Verdict<()> {
+    fn go_on(&mut self, pair: &mut Pair, random: &mut Random, clock: Clock) -> Verdict<()> {
         let Frame { id, bytes } = self.transfer.next(random);
         let given = pair.frame(id, &bytes)?;
         let is_good = given.number() == 0 && (!given.is(Code::Grant) || self.is_cts(&given));
         expect(is_good, || format!("a frame of a transfer was answered by {:02X?}", given.0))?;
-        self.mark = clock;
+        self.taken(&given, clock);
         if self.transfer.is_over() {
             let message = &self.transfer.message;
             expect(given.is(Code::HandedOver), || "a transfer was not handed over".into())?;
             let is_same = given.word(11) == self.transfer.total() && pair.out(message.len()) == message;
             expect(is_same, || "a message is not what was sent since the latest announcement".into())?;
-            self.is_open = false;
+            self.silence = None;
         }
         Ok(())
     }

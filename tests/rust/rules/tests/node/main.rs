@@ -1,7 +1,7 @@
 //! 02 E2: both ends at one address. Which end answers a frame, what it leaves alone at the other, and 23 for either.
 
 use rules::node::{Answer, Node};
-use rules::receiver::{self, Receiver, STORE_BYTES};
+use rules::receiver::{self, Limits, Receiver, STORE_BYTES};
 use rules::sending::{self, Event, Sender, TRANSFERS};
 
 const OWN: u8 = 33;
@@ -30,7 +30,7 @@ struct Bench {
 
 impl Bench {
     fn new() -> Bench {
-        let receiver = Receiver::open(OWN, 1_250, 0).0;
+        let receiver = Receiver::open(OWN, Limits::both(1_250), 0).0;
         let sender = Sender::open(OWN, 1_250, 0).0;
         Bench { node: Node { receiver, sender }, store: vec![0xEE; STORE_BYTES] }
     }
@@ -164,10 +164,12 @@ fn in_the_order_2_1_3_9() {
 #[test]
 fn out_of_bounds_is_23() {
     for (id, text) in [(CONTROL, CTS), (CONTROL, RTS), (DATA, "30 01 00 00 22"), (0x3C4D_2180, "00")] {
-        let mut bench = Bench::waiting();
-        bench.node.receiver.limit = 0;
-        bench.node.sender.limit = 0;
-        assert_eq!(bench.receiver_says(id, text).number(), 23);
+        for limits in [Limits { first: 0, second: 1_250 }, Limits { first: 1_250, second: 60_001 }] {
+            let mut bench = Bench::waiting();
+            bench.node.receiver.limits = limits;
+            bench.node.sender.limit = 0;
+            assert_eq!(bench.receiver_says(id, text).number(), 23);
+        }
         let mut bench = Bench::waiting();
         bench.store.pop();
         bench.node.sender.limit = 0;

@@ -1,11 +1,11 @@
-//! 01's table and whole case, in `restart` what E1 of 02 asks for and in `other_end` what E2 asks of a receiver by itself, so that the
-//! rules stand on the papers before anything is held against them.
+//! 01's table, P12 as E4 of 02 has it, and its whole case; in `restart` what E1 asks for and in `other_end` what E2 asks of a receiver by
+//! itself, so that the rules stand on the papers before anything is held against them.
 
 mod other_end;
 mod restart;
 
 use rules::groups::{pack, read, Group};
-use rules::receiver::{Answer, Ending, Key, Kind, Receiver, STORE_BYTES};
+use rules::receiver::{Answer, Ending, Key, Kind, Limits, Receiver, STORE_BYTES};
 use rules::{sent, Refusal};
 
 const KEY: Key = Key { sa: 128, da: 33, session: 3 };
@@ -19,7 +19,7 @@ fn rts(total: u32, segments: u32, max: u8) -> Vec<u8> {
 }
 
 fn opened() -> (Receiver, Vec<u8>) {
-    (Receiver::open(33, 1_250, 0).0, vec![0; STORE_BYTES])
+    (Receiver::open(33, Limits::both(1_250), 0).0, vec![0; STORE_BYTES])
 }
 
 fn refused_rts(refusal: Refusal) -> Answer {
@@ -74,13 +74,21 @@ fn p10() {
     assert_eq!((store[4_019], store[4_020], store[4_095], store[4_096]), (67, 68, 69, 0));
 }
 
+/// In either wait, each with its own limit: after the RTS the first, with one segment of two in the second.
 #[test]
 fn p12() {
-    let (mut receiver, mut store) = (Receiver::open(33, 1_250, 4_294_967_290).0, vec![0; STORE_BYTES]);
-    receiver.frame(CONTROL_ID, &rts(61, 2, 255), &mut store);
-    assert_eq!(receiver.reading(1_243, &store), Ok([None; 8]));
-    let ending = Ending { key: KEY, kind: Kind::Rts, pgn: PGN, refusal: Refusal::Silence };
-    assert_eq!(receiver.reading(1_244, &store).unwrap()[0], Some(ending));
+    for (taken, stays, ends) in [(0, 1_243, 1_244), (1, 743, 744)] {
+        let limits = Limits { first: 1_250, second: 750 };
+        let (mut receiver, mut store) = (Receiver::open(33, limits, 4_294_967_290).0, vec![0; STORE_BYTES]);
+        receiver.frame(CONTROL_ID, &rts(61, 2, 255), &mut store);
+        for n in 1..=taken {
+            let segment = [vec![0x30, n, 0, 0], vec![0x11; 60]].concat();
+            assert_eq!(receiver.frame(DATA_ID, &segment, &mut store), Answer::Taken { key: KEY, segment: n.into() });
+        }
+        assert_eq!(receiver.reading(stays, &store), Ok([None; 8]));
+        let ending = Ending { key: KEY, kind: Kind::Rts, pgn: PGN, refusal: Refusal::Silence };
+        assert_eq!(receiver.reading(ends, &store).unwrap()[0], Some(ending));
+    }
 }
 
 #[test]

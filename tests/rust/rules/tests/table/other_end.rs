@@ -1,7 +1,7 @@
 //! 02 E2 at a receiver by itself: what is meant for a sender finds no transfer and is 16; 10 is for what neither end takes.
 
 use crate::{opened, rts, CONTROL_ID, PGN};
-use rules::receiver::{Answer, Receiver, STORE_BYTES};
+use rules::receiver::{Answer, Limits, Receiver, STORE_BYTES};
 use rules::Refusal;
 
 /// The same to 255.
@@ -100,6 +100,8 @@ fn after_23() {
     let (mut receiver, mut store) = opened();
     let refused = Answer::Refused(Refusal::OutOfBounds);
     assert_eq!(receiver.frame(CONTROL_ID, &bytes, &mut store[..STORE_BYTES - 1]), refused);
-    receiver.limit = 0;
-    assert_eq!(receiver.frame(CONTROL_ID, &bytes, &mut store), refused);
+    for limits in [Limits { first: 0, second: 1_250 }, Limits { first: 1_250, second: 0 }] {
+        receiver.limits = limits;
+        assert_eq!(receiver.frame(CONTROL_ID, &bytes, &mut store), refused);
+    }
 }

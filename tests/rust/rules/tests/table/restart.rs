@@ -1,7 +1,7 @@
 //! 02 E1: an announcement for a key that is open. A repeated RTS begins the session anew; all else leaves it as it was.
 
 use crate::{KEY, PGN};
-use rules::receiver::{Answer, Ending, Key, Kind, Receiver, SLOT_BYTES, STORE_BYTES};
+use rules::receiver::{Answer, Ending, Key, Kind, Limits, Receiver, SLOT_BYTES, STORE_BYTES};
 use rules::{sent, Refusal};
 use std::ops::RangeInclusive;
 
@@ -58,9 +58,9 @@ struct Bench {
 }
 
 impl Bench {
-    /// Own address 33, limit 1,250, reading 0.
+    /// Own address 33, limit 1,250 in either wait, reading 0.
     fn new() -> Bench {
-        Bench { receiver: Receiver::open(33, 1_250, 0).0, store: vec![FORMER; STORE_BYTES] }
+        Bench { receiver: Receiver::open(33, Limits::both(1_250), 0).0, store: vec![FORMER; STORE_BYTES] }
     }
 
     /// With this announcement accepted and its first segments in, filled with 11 hex.
