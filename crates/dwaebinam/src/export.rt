@@ -36,8 +36,8 @@ pub extern "C" fn dwb_least_length(need: usize) -> usize
     }
 }
 
-// Opens a receiver in a buffer of RECORD_BYTES, with its two idle limits. An opening that is refused with 23 gives a record that every call refuses; a buffer of
-// another length stays as it was.
+// Opens a receiver in a buffer of RECORD_BYTES; first and second are its idle limits. An opening that is refused with 23 gives a record that
+// every call refuses; a buffer of another length stays as it was.
 #[no_mangle]
 pub extern "C" fn dwb_open(buffer: &mut [u8], own: u8, first: u32, second: u32, reading: u32) -> u8
     ensures { λ x. ⌜ (x, now (buffer .exit)) ≡ openedIn own (record { first = first; second = second }) reading (now (buffer .entry)) ⌝ }

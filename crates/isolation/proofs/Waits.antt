@@ -149,9 +149,6 @@ roomless slot last κ (abort pgn) = refl
 opens≢stays : (s : Session) → change.Opens s ≡ change.Stays → ⊥
 opens≢stays s e = let z : _≡_ {A = ℕ} 0 1 = cc in omega arith
 
-same-slot : (i j : ℕ) → At j ≡ At i → i ≡ j
-same-slot i j e = cc
-
 module _ (r : Receiver) (k : ℕ) (m : List ℕ) where
   -- a session in the slot for its key has the key, and that is one of the slots
   its-key : (i : ℕ) (s : Session) (g : Found) → keyPlace (keyAt k) (r .slots) ≡ g → orElse g (firstFree (r .slots)) ≡ At i → at (r .slots) i ≡ is.Open s

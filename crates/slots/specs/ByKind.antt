@@ -1,5 +1,5 @@
 -- The bounds of an open session in the order in which they are tested: what each kind has, the next segment, then what goes by the kind.
--- That this is `sessionOk` is a law (proofs/Reach.antt).
+-- That this is `sessionOk` is a law (proofs/ByKind.antt).
 use Prim.Native.Nat.{ℕ, _+_, _/_}
 use mathlib.Core.Bool.{Bool, not, _&&_, _||_}
 use lib.Dec.{eqb, leb}

@@ -4,7 +4,7 @@ use borrow.Author.Needs.{needs}
 use borrow.Author.Tests.{not-true, not-false}
 use Rattle.laws.specs.Bools.{and-same}
 use Rattle.slots.specs.ByKind.{kindOk}
-use Rattle.slots.proofs.Reach.{by-kind}
+use Rattle.slots.proofs.ByKind.{by-kind}
 use Rattle.slots.proofs.bounds.session_ok.Statement.{statement}
 use Rattle.slots.proofs.bounds.session_ok.Tie as tie
 
