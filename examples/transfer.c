@@ -108,28 +108,36 @@ static void two_messages(void)
     expect(untouched == sizeof out - sizeof second, "nothing is written behind the second message");
 }
 
+/* A plain group, and one with a trailer of 4 bytes of assurance data. */
 static void two_groups(void)
 {
+    static const uint8_t services[] = {DWB_PLAIN, DWB_WITH_TRAILER}, formats[] = {0, 2};
     static const uint32_t pgns[] = {59904, 65226};
-    static const uint8_t lengths[] = {3, 8};
-    static const uint8_t data[] = {0xCA, 0xFE, 0x00, 1, 2, 3, 4, 5, 6, 7, 8};
+    static const uint8_t lengths[] = {3, 8}, trailer_lengths[] = {0, 4};
+    static const uint8_t data[] = {0xCA, 0xFE, 0x00, 1, 2, 3, 4, 5, 6, 7, 8}, trailers[] = {0xAF, 0x03, 0x87, 0xEF};
     uint8_t frame[64];
     uint32_t groups[DWB_GROUPS_WORDS];
 
-    size_t length = dwb_pack(pgns, 2, lengths, 2, data, sizeof data, frame, sizeof frame);
-    expect(length == 20, "two headers and 11 bytes of data go into 20");
+    size_t length = dwb_pack(services, 2, formats, 2, pgns, 2, lengths, 2, trailer_lengths, 2, data, sizeof data, trailers,
+                             sizeof trailers, frame, sizeof frame);
+    expect(length == 24, "two headers, 11 bytes of data and a trailer of 4 go into 24");
     printf("packed 2 groups into %zu bytes\n", length);
 
     size_t count = dwb_groups(frame, length, groups, DWB_GROUPS_WORDS);
     expect(count == 2, "two groups come back");
-    const uint8_t *next = data;
+    const uint8_t *next = data, *trailer = trailers;
     for (size_t i = 0; i < 2 && count == 2; i++) {
         const uint32_t *g = groups + DWB_GROUP_WORDS * i;
+        const uint8_t *start = frame + g[DWB_GROUP_START];
+        expect(g[DWB_GROUP_SERVICE] == services[i] && g[DWB_GROUP_FORMAT] == formats[i], "service type and format are as packed");
         expect(g[DWB_GROUP_PGN] == pgns[i] && g[DWB_GROUP_LENGTH] == lengths[i], "PGN and length are as packed");
-        expect(memcmp(frame + g[DWB_GROUP_START], next, lengths[i]) == 0, "the data is as packed");
+        expect(g[DWB_GROUP_TRAILER] == trailer_lengths[i], "the trailer is as long as packed");
+        expect(memcmp(start, next, lengths[i]) == 0, "the data is as packed");
+        expect(memcmp(start + lengths[i], trailer, trailer_lengths[i]) == 0, "the trailer is as packed");
         next += lengths[i];
-        printf("  pgn %lu, %lu bytes from byte %lu\n", (unsigned long)g[DWB_GROUP_PGN],
-               (unsigned long)g[DWB_GROUP_LENGTH], (unsigned long)g[DWB_GROUP_START]);
+        trailer += trailer_lengths[i];
+        printf("  pgn %lu, %lu bytes from byte %lu, trailer %lu\n", (unsigned long)g[DWB_GROUP_PGN],
+               (unsigned long)g[DWB_GROUP_LENGTH], (unsigned long)g[DWB_GROUP_START], (unsigned long)g[DWB_GROUP_TRAILER]);
     }
 }
 

@@ -10,7 +10,7 @@
 
 /* The version of this boundary. It goes up with every change of a call, a length, a place or a code below. dwb_version answers the
    archive's: where the two differ, the program was compiled with the header of another archive, and must make no other call. */
-#define DWB_VERSION 3
+#define DWB_VERSION 4
 uint32_t dwb_version(void);
 
 /* The receiver's record is opaque: dwb_open fills it, and no other than these calls should read or write it. It holds no pointer, so it
@@ -114,15 +114,23 @@ enum {
 #define DWB_ANSWERS_BYTES 288
 #define DWB_TRANSFER_ANSWERS_BYTES 144
 
-/* The groups of a frame: DWB_GROUP_WORDS numbers for each; 16 fit at most. */
-#define DWB_GROUPS_WORDS 48
+/* The groups of a frame: DWB_GROUP_WORDS numbers for each; 16 fit at most. A group's trailer of assurance data follows its data; a group
+   of service type 2 has none. */
+#define DWB_GROUPS_WORDS 96
 
 enum {
     DWB_GROUP_PGN = 0,
-    DWB_GROUP_START = 1,    /* where its data starts in the frame */
-    DWB_GROUP_LENGTH = 2,   /* how long its data is */
-    DWB_GROUP_WORDS = 3
+    DWB_GROUP_SERVICE = 1,  /* its service type, DWB_WITH_TRAILER or DWB_PLAIN */
+    DWB_GROUP_FORMAT = 2,   /* its trailer format */
+    DWB_GROUP_START = 3,    /* where its data starts in the frame */
+    DWB_GROUP_LENGTH = 4,   /* how long its data is: at START + LENGTH the trailer starts */
+    DWB_GROUP_TRAILER = 5,  /* how long its trailer is: 0, 4 or 8 bytes */
+    DWB_GROUP_WORDS = 6
 };
+
+/* The service types that a group can have. With 1 the trailer formats 1 and 2 have a trailer of 4 bytes, 3, 5 and 6 one of 8; with 2 the
+   trailer format is 0. */
+enum { DWB_WITH_TRAILER = 1, DWB_PLAIN = 2 };
 
 /* The least data length of a CAN FD frame that holds need bytes; 255 for more than 64. */
 size_t dwb_least_length(size_t need);
@@ -197,13 +205,21 @@ uint8_t dwb_node_frame(uint8_t *record, size_t record_bytes, uint32_t id, const 
                        uint8_t *store, size_t store_bytes, uint8_t *sender, size_t sender_bytes,
                        uint8_t *answer, size_t answer_bytes);
 
-/* The groups of a Multi-PG frame, judged whole: how many, with three numbers for each in groups and the numbers after them as they
-   were. Refused: 256 times the number (23 for groups not of DWB_GROUPS_WORDS, 1, 4 to 8), with groups as they were. */
+/* The groups of a Multi-PG frame, judged whole: how many, with DWB_GROUP_WORDS numbers for each in groups and the numbers after them as
+   they were. Refused: 256 times the number (23 for groups not of DWB_GROUPS_WORDS, 1, 4 to 8), with groups as they were. */
 size_t dwb_groups(const uint8_t *bytes, size_t bytes_len, uint32_t *groups, size_t groups_words);
 
-/* Packs groups into a frame: its length, 0 to 64, with the bytes of out after it as they were. data holds the data of all groups back to
-   back. Refused: 256 times the number (8 or 24), with out as it was. */
-size_t dwb_pack(const uint32_t *pgns, size_t pgns_len, const uint8_t *lengths, size_t lengths_len,
-                const uint8_t *data, size_t data_bytes, uint8_t *out, size_t out_bytes);
+/* Packs groups into a frame: its length, 0 to 64, with the bytes of out after it as they were. Each group has a number at its place of
+   the first five lists: its service type, trailer format and PGN, how long its data is without the trailer, and how long its trailer is.
+   data holds the data of all groups back to back, trailers their trailers.
+
+   Refused: 256 times the number, with out as it was. Check by check: 6 for any service type other than 1 and 2; 7 for any trailer format
+   that its service type does not have, up to the shorter of the two lists; 8 for any PGN; then 24 for a trailer of another length than
+   its format has, lists of different lengths, data or trailers not as long as the lengths say, groups of more than 64 bytes, or out not
+   of 64 bytes. */
+size_t dwb_pack(const uint8_t *services, size_t services_len, const uint8_t *formats, size_t formats_len,
+                const uint32_t *pgns, size_t pgns_len, const uint8_t *lengths, size_t lengths_len,
+                const uint8_t *trailer_lengths, size_t trailer_lengths_len, const uint8_t *data, size_t data_bytes,
+                const uint8_t *trailers, size_t trailers_bytes, uint8_t *out, size_t out_bytes);
 
 #endif

@@ -1,5 +1,6 @@
 //! Both sides give equal answers: an answer and a record of the plain receiver as include/dwaebinam.h lays them out.
 
+pub mod groups;
 pub mod sending;
 pub mod waits;
 
@@ -244,37 +245,4 @@ pub fn compare<const CHECKED: bool>(name: &str, frames: &[Frame]) -> [usize; 256
     frames.iter().for_each(|frame| pair.frame(frame));
     pair.agree_on_store();
     pair.seen
-}
-
-pub fn compare_groups(name: &str, frames: &[Frame]) {
-    use crate::ours::GROUPS_WORDS;
-    use plain::{Group, MOST_GROUPS};
-    for (i, frame) in frames.iter().enumerate() {
-        let mut expected = [0xdead; GROUPS_WORDS];
-        let mut groups = [Group::default(); MOST_GROUPS];
-        let result = plain::unpack(frame.bytes(), &mut groups);
-        assert_eq!(result, plain::unpack_as_read(frame.bytes(), &mut [Group::default(); MOST_GROUPS]));
-        let count = result.map_or_else(|refusal| 256 * usize::from(refusal), |n| n);
-        for (words, group) in expected.chunks_mut(3).zip(&groups[..result.unwrap_or(0)]) {
-            let start = group.data.as_ptr() as usize - frame.bytes().as_ptr() as usize;
-            words.copy_from_slice(&[group.pgn, start as u32, group.data.len() as u32]);
-        }
-        let mut words = [0xdead; GROUPS_WORDS];
-        assert_eq!(boundary::groups(frame.bytes(), &mut words), count, "number, frame {i} of {name}");
-        assert_eq!(words, expected, "groups, frame {i} of {name}");
-    }
-}
-
-pub fn compare_pack(name: &str, requests: &[crate::frames::Request]) {
-    for (i, r) in requests.iter().enumerate() {
-        let (mut out, mut expected) = ([0x55; 64], [0x55; 64]);
-        let result = plain::pack(&r.pgns, &r.lengths, &r.data, &mut expected);
-        let number = result.map_or_else(|refusal| 256 * usize::from(refusal), |n| n);
-        assert_eq!(
-            boundary::pack(&r.pgns, &r.lengths, &r.data, &mut out),
-            number,
-            "number, request {i} of {name}"
-        );
-        assert_eq!(out, expected, "output, request {i} of {name}");
-    }
 }

@@ -1,6 +1,7 @@
 //! The frames that both sides are given. They are the same in every run.
 
 use plain::receiver::{Limits, Session};
+use plain::Refusal;
 
 pub const OWN: u8 = 33;
 /// The idle limit of a sender.
@@ -47,20 +48,65 @@ impl Dice {
     }
 }
 
-/// Groups to pack.
+/// Groups to pack: for each a number in the first five lists.
+#[derive(Clone, Debug, Default, PartialEq)]
 pub struct Request {
+    pub services: Vec<u8>,
+    pub formats: Vec<u8>,
     pub pgns: Vec<u32>,
     pub lengths: Vec<u8>,
+    pub trailer_lengths: Vec<u8>,
     pub data: Vec<u8>,
+    pub trailers: Vec<u8>,
 }
 
-/// So many groups with so many bytes of data in all.
-fn request(groups: usize, bytes: usize, dice: &mut Dice) -> Request {
+impl Request {
+    #[inline(always)]
+    pub fn pack(&self, out: &mut [u8]) -> Result<usize, Refusal> {
+        plain::pack(
+            &self.services,
+            &self.formats,
+            &self.pgns,
+            &self.lengths,
+            &self.trailer_lengths,
+            &self.data,
+            &self.trailers,
+            out,
+        )
+    }
+}
+
+/// The service types of a group with a trailer and of a plain one.
+pub const WITH_TRAILER: u8 = 1;
+pub const PLAIN: u8 = 2;
+
+/// The trailer formats, each with its trailer's length, the short ones first.
+const TRAILERS: [(u8, u8); 5] = [(1, 4), (2, 4), (3, 8), (5, 8), (6, 8)];
+
+fn some_bytes(count: usize, dice: &mut Dice) -> Vec<u8> {
+    (0..count).map(|_| dice.roll(256) as u8).collect()
+}
+
+/// Groups of these service types, with trailers as they fit. They fill a frame, or leave room for padding if they can.
+pub fn request(services: Vec<u8>, is_full: bool, dice: &mut Dice) -> Request {
+    let groups = services.len();
+    let with_trailer: Vec<usize> = (0..groups).filter(|&i| services[i] == WITH_TRAILER).collect();
+    // what is left when each trailer is a short one
+    let mut room = 64 - 4 * groups - 4 * with_trailer.len();
+    let (mut formats, mut trailer_lengths) = (vec![0; groups], vec![0; groups]);
+    for i in with_trailer {
+        let (format, length) = TRAILERS[dice.roll(if room < 4 { 2 } else { 5 })];
+        (formats[i], trailer_lengths[i]) = (format, length);
+        room -= usize::from(length) - 4;
+    }
+    let bytes = if is_full || room == 0 { room } else { dice.roll(room) };
     let mut lengths = vec![0; groups];
     for _ in 0..bytes {
         lengths[dice.roll(groups)] += 1;
     }
     Request {
+        services,
+        formats,
         pgns: (0..groups)
             .map(|_| match dice.roll(2) {
                 0 => (dice.roll(240) as u32) << 8,
@@ -68,37 +114,46 @@ fn request(groups: usize, bytes: usize, dice: &mut Dice) -> Request {
             })
             .collect(),
         lengths,
-        data: (0..bytes).map(|_| dice.roll(256) as u8).collect(),
+        data: some_bytes(bytes, dice),
+        trailers: some_bytes(trailer_lengths.iter().map(|&length| usize::from(length)).sum(), dice),
+        trailer_lengths,
     }
 }
 
-/// Sixteen requests of so many groups: half of them fill a frame, half leave room for padding.
-pub fn requests(groups: usize) -> Vec<Request> {
-    let mut dice = Dice(groups as u64);
-    let room = 64 - 4 * groups;
+/// Sixteen requests of so many groups, so many of them with a trailer: half of them fill a frame, half leave room for padding if they can.
+pub fn requests(groups: usize, trailers: usize) -> Vec<Request> {
+    let mut dice = Dice((trailers << 8 | groups) as u64);
     (0..16)
         .map(|i| {
-            let bytes = if i % 2 == 0 { room } else { dice.roll(room) };
-            request(groups, bytes, &mut dice)
+            let mut services = vec![PLAIN; groups];
+            while services.iter().filter(|&&service| service == WITH_TRAILER).count() < trailers {
+                services[dice.roll(groups)] = WITH_TRAILER;
+            }
+            request(services, i % 2 == 0, &mut dice)
         })
         .collect()
 }
 
-/// The requests packed, as Multi-PG frames from the camera.
+/// A Multi-PG frame from the camera.
+pub fn multi_pg(bytes: &[u8]) -> Frame {
+    Frame::new(0x1825_0080 | u32::from(OWN) << 8, bytes)
+}
+
+/// The requests packed.
 pub fn packed(requests: &[Request]) -> Vec<Frame> {
     requests
         .iter()
         .map(|r| {
             let mut out = [0; 64];
-            let length = plain::pack(&r.pgns, &r.lengths, &r.data, &mut out).expect("a good request");
-            Frame::new(0x1825_0080 | u32::from(OWN) << 8, &out[..length])
+            let length = r.pack(&mut out).expect("a good request");
+            multi_pg(&out[..length])
         })
         .collect()
 }
 
-/// A stream of Multi-PG frames: 1, 4 and 15 groups in turn, every fourth to all.
+/// A stream of Multi-PG frames of plain groups: 1, 4 and 15 groups in turn, every fourth to all.
 pub fn stream() -> Vec<Frame> {
-    let kinds = [1, 4, 15].map(|n| packed(&requests(n)));
+    let kinds = [1, 4, 15].map(|n| packed(&requests(n, 0)));
     (0..48)
         .map(|i| {
             let mut frame = kinds[i % 3][i / 3];
@@ -294,7 +349,12 @@ pub fn damage(frame: &mut Frame, dice: &mut Dice) {
 pub fn noise(count: usize, seed: u64) -> Vec<Frame> {
     let mut dice = Dice(seed);
     let senders: Vec<Sender> = (0..10).map(Sender::nth).collect();
-    let stream = stream();
+    let mut groups = stream();
+    groups.extend(
+        [(1, 1), (4, 2), (4, 4), (8, 8), (15, 1)]
+            .iter()
+            .flat_map(|&(n, trailers)| packed(&requests(n, trailers))),
+    );
     let mut next = [0; 10];
     (0..count)
         .map(|_| {
@@ -307,7 +367,7 @@ pub fn noise(count: usize, seed: u64) -> Vec<Frame> {
                 }
                 1 => s.status(),
                 2 => s.control(15, 0),
-                3 => stream[dice.roll(stream.len())],
+                3 => groups[dice.roll(groups.len())],
                 4 => Sending::nth(dice.roll(4) as u8).nth_reply(dice.roll(4)),
                 _ => {
                     next[n] = next[n] % s.segments() + 1;

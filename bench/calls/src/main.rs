@@ -10,7 +10,7 @@ mod frames;
 mod ours;
 mod sending;
 
-use frames::{Frame, Sender, Sending, LIMITS, OWN};
+use frames::{Frame, Request, Sender, Sending, LIMITS, OWN};
 use ours::{Ours, STORE_BYTES};
 use plain::receiver::{Answer, Receiver};
 use std::hint::black_box;
@@ -187,8 +187,8 @@ mod with_groups {
     }
 }
 
-fn pack_case(name: &'static str, groups: usize) -> Case {
-    let (ours, plain) = (frames::requests(groups), frames::requests(groups));
+fn pack_case(name: &'static str, requests: Vec<Request>) -> Case {
+    let (ours, plain) = (requests.clone(), requests);
     Case {
         name,
         calls: ours.len(),
@@ -196,7 +196,7 @@ fn pack_case(name: &'static str, groups: usize) -> Case {
             let mut out = [0; 64];
             for _ in 0..rounds {
                 for r in black_box(&ours[..]) {
-                    black_box(boundary::pack(&r.pgns, &r.lengths, &r.data, &mut out));
+                    black_box(ours::pack(r, &mut out));
                     black_box(&out);
                 }
             }
@@ -205,7 +205,7 @@ fn pack_case(name: &'static str, groups: usize) -> Case {
             let mut out = [0; 64];
             for _ in 0..rounds {
                 for r in black_box(&plain[..]) {
-                    consume(plain::pack(&r.pgns, &r.lengths, &r.data, &mut out));
+                    consume(r.pack(&mut out));
                     black_box(&out);
                 }
             }
@@ -214,16 +214,31 @@ fn pack_case(name: &'static str, groups: usize) -> Case {
     }
 }
 
+/// The name of a case, how many groups a frame of it has, and how many of them have a trailer.
+type Groups = (&'static str, usize, usize);
+
+const UNPACKED: [Groups; 7] = [
+    ("unpack-1", 1, 0),
+    ("unpack-4", 4, 0),
+    ("unpack-15", 15, 0),
+    ("unpack-1-trailer", 1, 1),
+    ("unpack-4-trailers", 4, 4),
+    ("unpack-8-trailers", 8, 8),
+    ("unpack-15-one-trailer", 15, 1),
+];
+
+const PACKED: [Groups; 4] = [("pack-1", 1, 0), ("pack-4", 4, 0), ("pack-15", 15, 0), ("pack-4-trailers", 4, 4)];
+
 fn cases() -> Vec<Case> {
     let eight: Vec<Sender> = (0..8).map(Sender::nth).collect();
     let four_sent: Vec<Sending> = (0..4).map(Sending::nth).collect();
     let stream = frames::stream();
     let mut cases = Vec::new();
-    for (name, n) in [("unpack-1", 1), ("unpack-4", 4), ("unpack-15", 15)] {
-        cases.push(with_groups::unpack_case(name, &frames::packed(&frames::requests(n))));
+    for (name, groups, trailers) in UNPACKED {
+        cases.push(with_groups::unpack_case(name, &frames::packed(&frames::requests(groups, trailers))));
     }
-    for (name, n) in [("pack-1", 1), ("pack-4", 4), ("pack-15", 15)] {
-        cases.push(pack_case(name, n));
+    for (name, groups, trailers) in PACKED {
+        cases.push(pack_case(name, frames::requests(groups, trailers)));
     }
     cases.push(frame_case("transfer-rts", &[], &frames::transfers(&eight[..1])));
     cases.push(frame_case("transfers-8", &[], &frames::transfers(&eight)));
@@ -245,27 +260,44 @@ fn counts(seen: &[usize; 256]) -> String {
     seen.join(", ")
 }
 
+fn equal_groups() {
+    use equal::groups::{any_frames, compare_any_requests, compare_frames, compare_heads, compare_kinds, compare_requests};
+    for (name, groups, trailers) in UNPACKED {
+        let requests = frames::requests(groups, trailers);
+        assert_eq!(compare_frames(name, &frames::packed(&requests))[0], 16);
+        assert_eq!(compare_requests(name, &requests)[0], 16);
+    }
+    let unpacked = [
+        ("heads", compare_heads()),
+        ("any groups", compare_frames("any groups", &any_frames(200_000, 6))),
+    ];
+    for (name, seen) in unpacked {
+        eprintln!("{name}: frames equal; numbers {}", counts(&seen));
+        assert!([0, 4, 5, 6, 7, 8].iter().all(|&number| seen[number] > 100));
+    }
+    assert_eq!(compare_requests("no groups", &[Request::default()])[0], 1);
+    // plain, and the five formats
+    assert_eq!(compare_kinds()[0], 6);
+    let seen = compare_any_requests(200_000, 6);
+    eprintln!("any groups: requests equal; numbers {}", counts(&seen));
+    assert!([0, 6, 7, 8, 24].iter().all(|&number| seen[number] > 100));
+}
+
 fn equal() {
     let eight: Vec<Sender> = (0..8).map(Sender::nth).collect();
-    let noise = frames::noise(200_000, 6);
     let lists = [
         ("one transfer", frames::transfers(&eight[..1])),
         ("eight transfers", frames::transfers(&eight)),
         ("stream", frames::stream()),
-        ("noise", noise),
+        ("noise", frames::noise(200_000, 6)),
     ];
     for (name, frames) in &lists {
         equal::compare::<true>(name, frames);
         let seen = equal::compare::<false>(name, frames);
         eprintln!("{name}: {} frames equal; numbers {}", frames.len(), counts(&seen));
-        equal::compare_groups(name, frames);
+        equal::groups::compare_frames(name, frames);
     }
-    for n in [1, 4, 15] {
-        let requests = frames::requests(n);
-        equal::compare_groups("packed", &frames::packed(&requests));
-        equal::compare_pack("requests", &requests);
-        assert!(frames::packed(&requests).len() == 16);
-    }
+    equal_groups();
     for limits in equal::waits::DRAWN {
         equal::waits::compare::<true>(100_000, 6, limits);
         let (met, seen) = equal::waits::compare::<false>(100_000, 6, limits);

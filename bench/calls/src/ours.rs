@@ -1,13 +1,15 @@
 //! Our side: the buffers that a program in C would hold, and the calls on them (tests/rust/boundary).
 
+use crate::frames::Request;
 use plain::receiver::Limits;
-use plain::{FRAME_BYTES, SLOTS, SLOT_BYTES};
+use plain::{FRAME_BYTES, MOST_GROUPS, SLOTS, SLOT_BYTES};
 
 pub const RECORD_BYTES: usize = 261;
 pub const STORE_BYTES: usize = SLOTS * SLOT_BYTES;
 pub const ANSWER_BYTES: usize = 36;
 pub const ANSWERS_BYTES: usize = SLOTS * ANSWER_BYTES;
-pub const GROUPS_WORDS: usize = 48;
+pub const GROUP_WORDS: usize = 6;
+pub const GROUPS_WORDS: usize = MOST_GROUPS * GROUP_WORDS;
 pub const SENDER_BYTES: usize = 113;
 pub const TRANSFER_ANSWERS_BYTES: usize = 4 * ANSWER_BYTES;
 
@@ -87,4 +89,18 @@ impl OurNode {
         let Ours { record, store, answer } = &mut self.receiver;
         boundary::node_frame(record, id, bytes, store, &mut self.sender.record, answer)
     }
+}
+
+#[inline(always)]
+pub fn pack(r: &Request, out: &mut [u8]) -> usize {
+    boundary::pack(
+        &r.services,
+        &r.formats,
+        &r.pgns,
+        &r.lengths,
+        &r.trailer_lengths,
+        &r.data,
+        &r.trailers,
+        out,
+    )
 }

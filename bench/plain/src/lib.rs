@@ -1,10 +1,12 @@
 //! The data link in plain Rust, to measure against and to compare with: frames, groups, packing, the receiver, the sender and a node of
-//! both. Written from 01 and E1, E2 and E4 of 02; shares nothing with crates/.
+//! both. Written from 01 and E1, E2, E4 and E5 of 02; shares nothing with crates/.
 
 pub mod node;
 pub mod receiver;
 pub mod sender;
 pub mod transport;
+
+use transport::is_pgn;
 
 /// A number of 01, "Numbered refusals", or of 02.
 pub type Refusal = u8;
@@ -18,11 +20,62 @@ pub fn is_can_fd_length(length: usize) -> bool {
     matches!(length, 0..=8 | 12 | 16 | 20 | 24 | 32 | 48 | 64)
 }
 
-/// A group of a frame, its data still in the frame.
-#[derive(Clone, Copy, Default)]
+/// A group of a frame, its data and its trailer still in the frame.
+#[derive(Clone, Copy, Default, PartialEq, Eq)]
 pub struct Group<'a> {
     pub pgn: u32,
+    pub service: u8,
+    pub format: u8,
     pub data: &'a [u8],
+    /// Empty for a plain group.
+    pub trailer: &'a [u8],
+}
+
+impl<'a> Group<'a> {
+    /// The group of a header and what is behind it, and the rest; none if its payload is longer than that, or its trailer than its payload.
+    #[inline(always)]
+    fn split(head: u32, behind: &'a [u8], trailer: usize) -> Option<(Self, &'a [u8])> {
+        let (payload, rest) = behind.split_at_checked((head & 0xff) as usize)?;
+        let (data, trailer) = payload.split_at(payload.len().checked_sub(trailer)?);
+        let group = Group {
+            pgn: pgn_of(head),
+            service: (head >> 29) as u8,
+            format: (head >> 26) as u8 & 7,
+            data,
+            trailer,
+        };
+        Some((group, rest))
+    }
+}
+
+/// How long the trailer is (001, Table 9); none if the two are not taken.
+const fn trailer_bytes(service: u8, format: u8) -> Option<u8> {
+    match (service, format) {
+        (2, 0) => Some(0),
+        (1, 1 | 2) => Some(4),
+        (1, 3 | 5 | 6) => Some(8),
+        _ => None,
+    }
+}
+
+/// Longer than any payload.
+const NOT_TAKEN: u16 = 256;
+
+/// The same by the top six bits of a header.
+const TRAILERS: [u16; 64] = {
+    let mut all = [NOT_TAKEN; 64];
+    let mut top = 0;
+    while top < 64 {
+        if let Some(bytes) = trailer_bytes(top >> 3, top & 7) {
+            all[top as usize] = bytes as u16;
+        }
+        top += 1;
+    }
+    all
+};
+
+fn pgn_of(head: u32) -> u32 {
+    (head >> 8) & 0x3_ffff
 }
 
 /// With PF below 240 the low byte is 0.
@@ -40,21 +93,17 @@ fn split_group(rest: &[u8]) -> Result<Option<(Group<'_>, &[u8])>, Refusal> {
         };
     };
     let head = u32::from_be_bytes(*head);
-    // TOS 2 and TF 0 in one test.
-    if head >> 26 != 2 << 3 {
-        return match head >> 29 {
+    let trailer = TRAILERS[(head >> 26) as usize];
+    // What is not taken fails here too, so a good group is not asked for its kind.
+    match Group::split(head, behind, trailer.into()) {
+        Some(found) if !low_byte_is_wrong(pgn_of(head)) => Ok(Some(found)),
+        _ => match head >> 29 {
             0 => Ok(None),
-            2 => Err(7),
+            1 | 2 if trailer == NOT_TAKEN => Err(7),
+            1 | 2 if low_byte_is_wrong(pgn_of(head)) => Err(8),
+            1 | 2 => Err(5),
             _ => Err(6),
-        };
-    }
-    let pgn = (head >> 8) & 0x3_ffff;
-    if low_byte_is_wrong(pgn) {
-        return Err(8);
-    }
-    match behind.split_at_checked((head & 0xff) as usize) {
-        Some((data, rest)) => Ok(Some((Group { pgn, data }, rest))),
-        None => Err(5),
+        },
     }
 }
 
@@ -115,12 +164,9 @@ impl<'a> Iterator for Groups<'a> {
     fn next(&mut self) -> Option<Group<'a>> {
         let (head, behind) = self.rest.split_first_chunk::<4>()?;
         let head = u32::from_be_bytes(*head);
-        let (data, rest) = behind.split_at_checked((head & 0xff) as usize)?;
+        let (group, rest) = Group::split(head, behind, TRAILERS[(head >> 26) as usize].into())?;
         self.rest = rest;
-        Some(Group {
-            pgn: (head >> 8) & 0x3_ffff,
-            data,
-        })
+        Some(group)
     }
 }
 
@@ -139,35 +185,109 @@ fn least_length(need: usize) -> Option<usize> {
     }
 }
 
-/// Packs groups into a frame; `data` has the data of all groups back to back. Nothing is written on a refusal.
-#[inline(never)]
-pub fn pack(pgns: &[u32], lengths: &[u8], data: &[u8], out: &mut [u8]) -> Result<usize, Refusal> {
-    if pgns.iter().any(|&pgn| pgn >> 18 != 0 || low_byte_is_wrong(pgn)) {
-        return Err(8);
+/// What fills a frame up to the next length.
+const PADDING: [u8; 15] = {
+    let mut bytes = [0xaa; 15];
+    (bytes[0], bytes[1], bytes[2]) = (0, 0, 0);
+    bytes
+};
+
+/// Makes the headers; how long the data of all groups is, and how long the trailers are. None if a group is not good or the lists differ
+/// in length.
+#[inline(always)]
+fn make_heads(
+    services: &[u8],
+    formats: &[u8],
+    pgns: &[u32],
+    lengths: &[u8],
+    trailer_lengths: &[u8],
+    heads: &mut [u32; MOST_GROUPS],
+) -> Option<(usize, usize)> {
+    let groups = services.len();
+    let are_equal = formats.len() == groups && pgns.len() == groups && lengths.len() == groups && trailer_lengths.len() == groups;
+    if !are_equal || groups > MOST_GROUPS {
+        return None;
     }
+    let (mut bytes, mut bytes_of_trailers) = (0, 0);
+    for i in 0..groups {
+        let (service, format, pgn) = (services[i], formats[i], pgns[i]);
+        if trailer_bytes(service, format) != Some(trailer_lengths[i]) || !is_pgn(pgn) {
+            return None;
+        }
+        let (length, trailer) = (usize::from(lengths[i]), usize::from(trailer_lengths[i]));
+        // A sum too large for the byte is too large for a frame.
+        heads[i] = u32::from(service) << 29 | u32::from(format) << 26 | pgn << 8 | (length + trailer) as u32;
+        bytes += length;
+        bytes_of_trailers += trailer;
+    }
+    Some((bytes, bytes_of_trailers))
+}
+
+/// Why there are no headers: the first check that fails.
+#[cold]
+fn first_fault(services: &[u8], formats: &[u8], pgns: &[u32]) -> Refusal {
+    let mut kinds = services.iter().zip(formats);
+    if services.iter().any(|service| !matches!(service, 1 | 2)) {
+        6
+    } else if kinds.any(|(&service, &format)| trailer_bytes(service, format).is_none()) {
+        7
+    } else if pgns.iter().any(|&pgn| !is_pgn(pgn)) {
+        8
+    } else {
+        24
+    }
+}
+
+/// Copies `bytes` to the front of `to`, and leaves there what is behind them.
+#[inline(always)]
+fn put(to: &mut &mut [u8], bytes: &[u8]) {
+    let (front, behind) = std::mem::take(to).split_at_mut(bytes.len());
+    front.copy_from_slice(bytes);
+    *to = behind;
+}
+
+/// Copies so many bytes of the front of `from`, and leaves there too what is behind them.
+#[inline(always)]
+fn carry(to: &mut &mut [u8], from: &mut &[u8], count: usize) {
+    let (bytes, behind) = from.split_at(count);
+    put(to, bytes);
+    *from = behind;
+}
+
+/// Packs groups into a frame; `data` has the data of all groups back to back, `trailers` their trailers. Nothing is written on a refusal.
+#[inline(never)]
+pub fn pack(
+    services: &[u8],
+    formats: &[u8],
+    pgns: &[u32],
+    lengths: &[u8],
+    trailer_lengths: &[u8],
+    mut data: &[u8],
+    mut trailers: &[u8],
+    out: &mut [u8],
+) -> Result<usize, Refusal> {
+    let mut heads = [0; MOST_GROUPS];
+    let Some((bytes, bytes_of_trailers)) = make_heads(services, formats, pgns, lengths, trailer_lengths, &mut heads) else {
+        return Err(first_fault(services, formats, pgns));
+    };
     let Ok(out) = <&mut [u8; FRAME_BYTES]>::try_from(out) else {
         return Err(24);
     };
-    if pgns.len() != lengths.len() || pgns.len() > MOST_GROUPS {
-        return Err(24);
-    }
-    let bytes: usize = lengths.iter().map(|&length| usize::from(length)).sum();
-    let need = bytes + 4 * pgns.len();
-    let length = match least_length(need) {
-        Some(length) if data.len() == bytes => length,
+    let length = match least_length(4 * services.len() + bytes + bytes_of_trailers) {
+        Some(length) if data.len() == bytes && trailers.len() == bytes_of_trailers => length,
         _ => return Err(24),
     };
-    let (mut to, mut from) = (&mut out[..length], data);
-    for (&pgn, &count) in pgns.iter().zip(lengths) {
-        let (data, behind) = from.split_at(usize::from(count));
-        let (head, room) = to.split_at_mut(4);
-        let (body, room) = room.split_at_mut(data.len());
-        head.copy_from_slice(&(2 << 29 | pgn << 8 | u32::from(count)).to_be_bytes());
-        body.copy_from_slice(data);
-        (to, from) = (room, behind);
+    let mut to = &mut out[..length];
+    for ((head, &length), trailer) in heads.iter().zip(lengths).zip(trailer_lengths) {
+        put(&mut to, &head.to_be_bytes());
+        carry(&mut to, &mut data, length.into());
+        // each copy of a fixed length
+        match trailer {
+            0 => {}
+            4 => carry(&mut to, &mut trailers, 4),
+            _ => carry(&mut to, &mut trailers, 8),
+        }
     }
-    let zeros = to.len().min(3);
-    to[..zeros].fill(0);
-    to[zeros..].fill(0xaa);
+    to.copy_from_slice(&PADDING[..to.len()]);
     Ok(length)
 }

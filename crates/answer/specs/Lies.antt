@@ -8,7 +8,7 @@ use native.Mathlib.Omega.{arith}
 use borrow.Author.Tests.{lt-leb, le-ltb}
 use Rattle.laws.specs.Choice.{else}
 use Rattle.multi_pg.specs.declared.Group.{Group}
-use Rattle.multi_pg.specs.Groups.{contentOf}
+use Rattle.multi_pg.specs.Groups.{trailerStart, endOf, contentOf}
 use Rattle.answer.specs.declared.place.Place.the-variants as place
 use Rattle.answer.specs.Places.{cutOf, placeBytes}
 use Rattle.answer.specs.declared.Message.{Message}
@@ -28,6 +28,10 @@ message-lies m frame store h t l =
     (else (ltb 4096 (m .total .0)) _ _ _ (le-ltb 4096 (m .total .0) t)
     (sym (cut-lies store (4096 * m .slot) (m .total .0) (omega arith)))))
 
--- a group whose data lies in the frame
-pub group-lies : (g : Group) (frame store : List ℕ) → g .start + g .len ≤ length frame → placeBytes (place.Group (g .start) (g .len)) frame store ≡ contentOf frame g .bytes
-group-lies g frame store h = cut-lies frame (g .start) (g .len) h
+-- a group that lies in the frame: its data, and its trailer
+module _ (g : Group) (frame store : List ℕ) (h : endOf g ≤ length frame) where
+  pub data-lies : placeBytes (place.Group (g .start) (g .len)) frame store ≡ contentOf frame g .bytes
+  data-lies = cut-lies frame (g .start) (g .len) (omega arith)
+
+  pub trailer-lies : placeBytes (place.Group (trailerStart g) (g .trailer)) frame store ≡ contentOf frame g .trailer
+  trailer-lies = cut-lies frame (trailerStart g) (g .trailer) h

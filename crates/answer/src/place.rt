@@ -10,7 +10,7 @@ pub const SLOTS: usize = 8;
 pub const SLOT_BYTES: usize = 4096;
 
 pub enum Place {
-    // a group's data, in the frame
+    // a group's data, or its trailer, in the frame
     Group { start: usize, len: usize },
     // a message, from the start of its slot
     Message { slot: usize, total: ByteCount },

@@ -5,7 +5,7 @@ use super::pack::refused;
 use unpacking::Unpacked;
 use unpacking::unpack;
 
-// The groups of a frame into the front of groups, three numbers for each: how many, or 256 times the number of the refusal.
+// The groups of a frame into the front of groups, six numbers for each: how many, or 256 times the number of the refusal.
 #[no_mangle]
 pub extern "C" fn dwb_groups(bytes: &[u8], groups: &mut [u32]) -> usize
     ensures { λ r. ⌜ (r, now (groups .exit)) ≡ unpackedIn (now (bytes .entry)) (now (groups .entry)) ⌝ }

@@ -17,10 +17,36 @@ pub fn refused(x: Refusal) -> usize
 
 // Packs groups into the front of out: the frame's length, or 256 times the number of the refusal.
 #[no_mangle]
-pub extern "C" fn dwb_pack(pgns: &[u32], lengths: &[u8], data: &[u8], out: &mut [u8]) -> usize
-    ensures { λ r. ⌜ (r, now (out .exit)) ≡ packedIn (now (pgns .entry)) (now (lengths .entry)) (now («data» .entry)) (now (out .entry)) ⌝ }
+pub extern "C" fn dwb_pack(
+    services: &[u8],
+    formats: &[u8],
+    pgns: &[u32],
+    lengths: &[u8],
+    trailers: &[u8],
+    data: &[u8],
+    assured: &[u8],
+    out: &mut [u8],
+) -> usize
+    ensures { λ r. ⌜ (r, now (out .exit)) ≡ packedIn (record {
+      services = now (services .entry);
+      formats = now (formats .entry);
+      pgns = now (pgns .entry);
+      lengths = now (lengths .entry);
+      trailers = now (trailers .entry);
+      joined = now («data» .entry);
+      assured = now (assured .entry);
+    }) (now (out .entry)) ⌝ }
 {
-    match pack(pgns, lengths, data, out) {
+    match pack(
+        services,
+        formats,
+        pgns,
+        lengths,
+        trailers,
+        data,
+        assured,
+        out,
+    ) {
         Packed::Frame(n) => n,
         Packed::Refused(x) => refused(x),
     }

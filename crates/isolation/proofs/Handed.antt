@@ -12,7 +12,8 @@ use borrow.Author.Tests.{eqb-true}
 use Rattle.frame.specs.Judge.{judged as judged-frame}
 use Rattle.frame.specs.declared.refusal.Refusal.the-variants.{FormatIndicator, OutOfBounds}
 use Rattle.multi_pg.specs.declared.Group.{Group}
-use Rattle.multi_pg.specs.Groups.{good, groupsRead, contentOf}
+use Rattle.multi_pg.specs.Groups.{trailerStart, endOf, good, groupsRead, contentOf}
+use Rattle.multi_pg.specs.Places.{here-end}
 use Rattle.multi_pg.specs.Reader as chain
 use Rattle.multi_pg.specs.Reader.{Chain, good-chain}
 use Rattle.transport.specs.declared.Key.{Key}
@@ -22,7 +23,7 @@ use Rattle.answer.specs.declared.Answer.the-variants as answer
 use Rattle.answer.specs.declared.Message.{Message}
 use Rattle.answer.specs.declared.place.Place.the-variants as place
 use Rattle.answer.specs.Places.{placeOf, placeBytes}
-use Rattle.answer.specs.Lies.{message-lies, group-lies}
+use Rattle.answer.specs.Lies.{message-lies, data-lies, trailer-lies}
 use Rattle.progress.specs.Forward.{ctsDue}
 use Rattle.session.specs.declared.Session.{Session}
 use Rattle.session.specs.declared.State.{State}
@@ -191,12 +192,15 @@ handed-over r id d m eight x hands = go (isReady r m) refl hands
 
 -- ---- groups
 
-chain-inside : (d : List ℕ) {at : ℕ} {gs : List Group} → Chain d at gs → (i : ℕ) (o : Group) → i < length gs → getD gs i o .start + getD gs i o .len ≤ length d
+chain-inside : (d : List ℕ) {at : ℕ} {gs : List Group} → Chain d at gs → (i : ℕ) (o : Group) → i < length gs → endOf (getD gs i o) ≤ length d
 chain-inside d (chain.last e) i o h = absurd (omega arith)
-chain-inside d (chain.link p c) zero o h = p .whole
+chain-inside d {at} (chain.link {n = n} p c) zero o h = omega (arith, p .whole, here-end d at n p)
 chain-inside d (chain.link p c) (suc i) o h = chain-inside d c i o (omega arith)
 
--- For every group of a frame that is not refused the same function gives exactly the group's data.
+-- For every group of a frame that is not refused the same function gives exactly the group's data, and its trailer.
 pub groups-handed : (d m : List ℕ) (gs : List Group) → groupsRead d ≡ good gs → (i : ℕ) (o : Group) → i < length gs
-    → placeBytes (place.Group (getD gs i o .start) (getD gs i o .len)) d m ≡ contentOf d (getD gs i o) .bytes
-groups-handed d m gs e i o h = group-lies (getD gs i o) d m (chain-inside d (good-chain d gs e) i o h)
+    → (placeBytes (place.Group (getD gs i o .start) (getD gs i o .len)) d m ≡ contentOf d (getD gs i o) .bytes)
+    × (placeBytes (place.Group (trailerStart (getD gs i o)) (getD gs i o .trailer)) d m ≡ contentOf d (getD gs i o) .trailer)
+groups-handed d m gs e i o h =
+    let inside : endOf (getD gs i o) ≤ length d = chain-inside d (good-chain d gs e) i o h in
+    (data-lies (getD gs i o) d m inside, trailer-lies (getD gs i o) d m inside)

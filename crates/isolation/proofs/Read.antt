@@ -17,7 +17,8 @@ use Rattle.frame.specs.declared.refusal.Refusal.the-variants.{FrameLength, Iden
 use Rattle.frame.specs.Identifiers.{identifierOf}
 use Rattle.frame.specs.Lengths.{isLength}
 use Rattle.frame.specs.Judge.{routeTaken, byFormat, routeOf, judged}
-use Rattle.multi_pg.specs.Groups.{tos, tf, pgnAt, dataLength, stepAt, GroupsRead, good, bad, after, onStep, readFrom, groupsRead}
+use Rattle.multi_pg.specs.Groups.{endOf, stepAt, GroupsRead, good, bad, after, onStep, readFrom, groupsRead}
+use Rattle.multi_pg.specs.Faults.{OfFault, step-fault}
 use Rattle.multi_pg.specs.declared.Group.{Group}
 use Rattle.multi_pg.specs.declared.Step.{Step}
 use Rattle.multi_pg.specs.declared.Step.the-variants as step
@@ -129,20 +130,14 @@ abbrev pub mildGroups : GroupsRead → Bool
 mildGroups (good gs) = true
 mildGroups (bad n) = groupFault (numberOf n)
 
-step-cond : (t : Bool) (x y : Step) → mildStep x ≡ true → mildStep y ≡ true → mildStep (cond t x y) ≡ true
-step-cond true x y a b = a
-step-cond false x y a b = b
-
 step-mild : (d : List ℕ) (at : ℕ) → mildStep (stepAt d at) ≡ true
 unfolding mildStep
-step-mild d at =
-    step-cond (leb (length d) at) _ _ refl
-    (step-cond (eqb (tos d at) 0) _ _ refl
-    (step-cond (ltb (length d - at) 4) _ _ refl
-    (step-cond (not (eqb (tos d at) 2)) _ _ refl
-    (step-cond (not (eqb (tf d at) 0)) _ _ refl
-    (step-cond (not (lowByteOk (pgnAt d at))) _ _ refl
-    (step-cond (ltb (length d - at - 4) (dataLength d at)) _ _ refl refl))))))
+step-mild d at = go (stepAt d at) (step-fault (λ n. groupFault (numberOf n) ≡ true) refl refl refl refl refl d at)
+  where
+    go : (x : Step) → OfFault (λ n. groupFault (numberOf n) ≡ true) x → mildStep x ≡ true
+    go step.End f = refl
+    go (step.Fault n) f = f
+    go (step.At g) f = refl
 
 after-mild : (g : Group) (x : GroupsRead) → mildGroups x ≡ true → mildGroups (after g x) ≡ true
 after-mild g (good gs) e = refl
@@ -157,7 +152,7 @@ on-mild (step.At g) rest e f = after-mild g (rest g) (f g)
 read-mild : (n : ℕ) (d : List ℕ) (at : ℕ) → mildGroups (readFrom n d at) ≡ true
 unfolding readFrom
 read-mild zero d at = refl
-read-mild (suc n) d at = on-mild (stepAt d at) (λ g. readFrom n d (g .start + g .len)) (step-mild d at) (λ g. read-mild n d (g .start + g .len))
+read-mild (suc n) d at = on-mild (stepAt d at) (λ g. readFrom n d (endOf g)) (step-mild d at) (λ g. read-mild n d (endOf g))
 
 pub reading-mild : (d : List ℕ) → mildGroups (groupsRead d) ≡ true
 unfolding groupsRead

@@ -10,8 +10,8 @@ use Rattle.multi_pg.specs.declared.Cursor.{Cursor}
 use Rattle.multi_pg.specs.declared.Step.{Step}
 use Rattle.multi_pg.specs.declared.Step.the-variants as step
 use Rattle.multi_pg.specs.declared.Next.the-variants as next
-use Rattle.multi_pg.specs.Groups.{dataLength, groupAt, stepAt, GroupsRead, good, bad, after, onStep, readFrom, groupsRead, judgementOf, groupsIn, groupsOf, startAt, startOf, onNext, nextAt, contentOf}
-use Rattle.multi_pg.specs.Places.{Plain, plain-step, step-plain, step-room, readOn, read-all, read-group, read-end, short-none}
+use Rattle.multi_pg.specs.Groups.{groupAt, trailerStart, endOf, stepAt, GroupsRead, good, bad, after, onStep, readFrom, groupsRead, judgementOf, groupsIn, groupsOf, startAt, startOf, onNext, nextAt, contentOf}
+use Rattle.multi_pg.specs.Places.{Here, here-end, here-step, step-here, step-room, readOn, read-all, read-group, read-end, past-none}
 
 -- ---- what is given out
 
@@ -20,16 +20,16 @@ pub data Yields (d : List ℕ) : ℕ → List Group → Type 0 where
   done : {at : ℕ} → nextAt d at ≡ next.End → Yields d at []
   more : {at : ℕ} {g : Group} {to : Cursor} {gs : List Group} → nextAt d at ≡ next.Given g to → Yields d (to .at) gs → Yields d at (g ∷ gs)
 
--- whole plain groups back to back from a place on, up to the frame's end or its padding
+-- whole groups back to back from a place on, up to the frame's end or its padding
 pub data Chain (d : List ℕ) : ℕ → List Group → Type 0 where
   last : {at : ℕ} → stepAt d at ≡ step.End → Chain d at []
-  link : {at : ℕ} {gs : List Group} → Plain d at → Chain d (at + 4 + dataLength d at) gs → Chain d at (groupAt d at ∷ gs)
+  link : {at n : ℕ} {gs : List Group} → Here d at n → Chain d (endOf (groupAt d at n)) gs → Chain d at (groupAt d at n ∷ gs)
 
--- a group is the one whose header comes before its data, and its data lies in the frame
+-- a group is the one whose header comes before its data, and it lies in the frame with its trailer
 pub record Stands (d : List ℕ) (g : Group) : Type 0 where
   pub header : 4 ≤ g .start
-  pub inside : g .start + g .len ≤ length d
-  pub own : g ≡ groupAt d (g .start - 4)
+  pub inside : endOf g ≤ length d
+  pub own : g ≡ groupAt d (g .start - 4) (g .trailer)
 
 -- ---- a frame read as good is a chain, and the other way round
 
@@ -40,13 +40,13 @@ after-good g (bad r) gs e = absurd (let z : _≡_ {A = ℕ} 0 1 = cc in omega ar
 module _ (d : List ℕ) where
   -- a place of a chain, if what follows it is one
   chain-step : (at : ℕ) (gs : List Group) (s : Step) (f : Group → GroupsRead) → stepAt d at ≡ s → onStep s f ≡ good gs
-      → ((g : Group) (hs : List Group) → stepAt d at ≡ step.At g → f g ≡ good hs → Chain d (g .start + g .len) hs) → Chain d at gs
+      → ((g : Group) (hs : List Group) → stepAt d at ≡ step.At g → f g ≡ good hs → Chain d (endOf g) hs) → Chain d at gs
   chain-step at gs (step.At g) f q e rest =
       let (hs, r, p) = after-good g (f g) gs e in
-      let (plain, same) = step-plain d at g q in
-      let c : Chain d (g .start + g .len) hs = rest g hs q r in
-      subst (λ (l : List Group). Chain d at l) (ap (λ (x : Group). x ∷ hs) (sym same) ∙ p)
-      (link plain (subst (λ (x : Group). Chain d (x .start + x .len) hs) same c))
+      let m = step-here d at g q in
+      let c : Chain d (endOf g) hs = rest g hs q r in
+      subst (λ (l : List Group). Chain d at l) (ap (λ (x : Group). x ∷ hs) (sym (m .same)) ∙ p)
+      (link (m .here) (subst (λ (x : Group). Chain d (endOf x) hs) (m .same) c))
   chain-step at gs step.End f q e rest = subst (λ (l : List Group). Chain d at l) (cc) (last q)
   chain-step at gs (step.Fault r) f q e rest = absurd (let z : _≡_ {A = ℕ} 0 1 = cc in omega arith)
 
@@ -54,8 +54,8 @@ module _ (d : List ℕ) where
   unfolding readFrom
   chain-by zero at gs e h = absurd (omega arith)
   chain-by (suc n) at gs e h =
-      chain-step at gs (stepAt d at) (λ g. readFrom n d (g .start + g .len)) refl e
-      (λ g hs q r. chain-by n (g .start + g .len) hs r (omega (arith, step-room d at g q)))
+      chain-step at gs (stepAt d at) (λ g. readFrom n d (endOf g)) refl e
+      (λ g hs q r. chain-by n (endOf g) hs r (omega (arith, step-room d at g q)))
 
   pub good-chain : (gs : List Group) → groupsRead d ≡ good gs → Chain d 0 gs
   unfolding groupsRead
@@ -63,7 +63,7 @@ module _ (d : List ℕ) where
 
   chain-reads : {at : ℕ} {gs : List Group} → Chain d at gs → readOn d at ≡ good gs
   chain-reads {at} (last q) = read-end d at q
-  chain-reads {at} (link p c) = read-group d at (groupAt d at) (plain-step d at p) ∙ ap (after (groupAt d at)) (chain-reads c)
+  chain-reads {at} (link {n = n} p c) = read-group d at (groupAt d at n) (here-step d at n p) ∙ ap (after (groupAt d at n)) (chain-reads c)
 
   pub chain-good : (gs : List Group) → Chain d 0 gs → groupsRead d ≡ good gs
   chain-good gs c = read-all d ∙ chain-reads c
@@ -72,11 +72,11 @@ module _ (d : List ℕ) where
 
   chain-yields : {at : ℕ} {gs : List Group} → Chain d at gs → Yields d at gs
   chain-yields (last q) = done (ap onNext q)
-  chain-yields {at} (link p c) = more (ap onNext (plain-step d at p)) (chain-yields c)
+  chain-yields {at} (link {n = n} p c) = more (ap onNext (here-step d at n p)) (chain-yields c)
 
   yields-by : (r : GroupsRead) → groupsRead d ≡ r → Yields d (startAt (length d) (judgementOf r)) (groupsIn r)
   yields-by (good gs) e = chain-yields (good-chain gs e)
-  yields-by (bad r) e = done (short-none d (length d) (omega arith))
+  yields-by (bad r) e = done (past-none d (length d) (omega arith))
 
   -- A reader over any bytes gives out the groups that they hold, all and in order; of a refused frame none.
   pub yields-all : Yields d (startOf d) (groupsOf d)
@@ -97,11 +97,15 @@ module _ (d : List ℕ) where
 
   chain-stands : {at : ℕ} {gs : List Group} (o : Group) (i : ℕ) → Chain d at gs → i < length gs → Stands d (getD gs i o)
   chain-stands o i (last q) h = absurd (omega arith)
-  chain-stands {at} o zero (link p c) h =
-      record { header = omega arith; inside = p .whole; own = ap (groupAt d) (let e : at ≡ at + 4 - 4 = omega arith in e) }
+  chain-stands {at} o zero (link {n = n} p c) h =
+      record {
+        header = omega arith;
+        inside = omega (arith, p .whole, here-end d at n p);
+        own = ap (λ (x : ℕ). groupAt d x n) (let e : at ≡ at + 4 - 4 = omega arith in e);
+      }
   chain-stands o (suc i) (link p c) h = chain-stands o i c (omega arith)
 
-  chain-row : {at : ℕ} {gs : List Group} (o : Group) (i : ℕ) → Chain d at gs → suc i < length gs → getD gs (suc i) o .start ≡ getD gs i o .start + getD gs i o .len + 4
+  chain-row : {at : ℕ} {gs : List Group} (o : Group) (i : ℕ) → Chain d at gs → suc i < length gs → getD gs (suc i) o .start ≡ endOf (getD gs i o) + 4
   chain-row o i (last q) h = absurd (omega arith)
   chain-row o i (link p (last q)) h = absurd (omega arith)
   chain-row o zero (link p (link q c)) h = refl
@@ -126,15 +130,17 @@ module _ (d : List ℕ) where
         groups-by (λ gs. i < length gs → Stands d (getD gs i o)) (λ h. absurd (omega arith)) (λ gs c h. chain-stands o i c h)
 
     -- back to back: between the end of a group and the next one's data there is just the header
-    pub each-next : suc i < length (groupsOf d) → getD (groupsOf d) (suc i) o .start ≡ getD (groupsOf d) i o .start + getD (groupsOf d) i o .len + 4
+    pub each-next : suc i < length (groupsOf d) → getD (groupsOf d) (suc i) o .start ≡ endOf (getD (groupsOf d) i o) + 4
     each-next =
-        groups-by (λ gs. suc i < length gs → getD gs (suc i) o .start ≡ getD gs i o .start + getD gs i o .len + 4) (λ h. absurd (omega arith)) (λ gs c h. chain-row o i c h)
+        groups-by (λ gs. suc i < length gs → getD gs (suc i) o .start ≡ endOf (getD gs i o) + 4) (λ h. absurd (omega arith)) (λ gs c h. chain-row o i c h)
 
   pub first-start : (o : Group) → 0 < length (groupsOf d) → getD (groupsOf d) 0 o .start ≡ 4
   first-start o = groups-by (λ gs. 0 < length gs → getD gs 0 o .start ≡ 4) (λ h. absurd (omega arith)) (λ gs c h. chain-first o c h)
 
-  -- as many bytes as the group's length says, none cut
-  pub stands-bytes : (g : Group) → Stands d g → length (contentOf d g .bytes) ≡ g .len
+  -- as many bytes of data and of trailer as the group says, none cut
+  pub stands-bytes : (g : Group) → Stands d g → (length (contentOf d g .bytes) ≡ g .len) × (length (contentOf d g .trailer) ≡ g .trailer)
   stands-bytes g s =
-      let w : g .start + g .len ≤ length d = s .inside in
-      length-take-le (g .len) (drop (g .start) d) (simp length-drop (omega arith))
+      let w : endOf g ≤ length d = s .inside in (
+        length-take-le (g .len) (drop (g .start) d) (simp length-drop (omega arith)),
+        length-take-le (g .trailer) (drop (trailerStart g) d) (simp length-drop (omega arith)),
+      )

@@ -1,15 +1,20 @@
-// Groups in one Multi-PG frame (01, "Groups in one frame").
+// Groups in one Multi-PG frame (01, "Groups in one frame"; 02, E5).
+pub mod header;
 pub mod read;
 
 ghost use mathlib.Core.Path.{_≡_};
-ghost use Rattle.multi_pg.specs.Groups.{startOf, nextAt};
+ghost use Prim.Native.Nat.{_<_, _^_};
+ghost use Rattle.multi_pg.specs.Groups.{endOf, startOf, nextAt};
 use frame::refusal::Refusal;
 
-// A group in a frame: its PGN, and where its data starts and how long it is.
+// A group in a frame: what its header says, where its data starts and how long it is, and how long its trailer is, which follows the data.
 pub struct Group {
     pub pgn: u32,
+    pub service: u8,
+    pub format: u8,
     pub start: usize,
     pub len: usize,
+    pub trailer: usize,
 }
 
 // What is at a place of a frame.
@@ -35,6 +40,14 @@ pub enum Next {
     End,
 }
 
+// The place after a group.
+pub fn end_of(g: Group) -> usize
+    requires { ⌜ endOf g < 2 ^ 64 ⌝ }
+    ensures { λ r. ⌜ r ≡ endOf g ⌝ }
+{
+    g.start + g.len + g.trailer
+}
+
 impl Cursor {
     // A reader over a frame, which is judged whole first. A refused frame gives out no group.
     pub fn over(frame: &[u8]) -> Cursor
@@ -50,22 +63,13 @@ impl Cursor {
     pub fn next(self, frame: &[u8]) -> Next
         ensures { λ r. ⌜ r ≡ nextAt (now (frame .entry)) (self .at) ⌝ }
     {
-        let at = self.at;
-        if frame.len() <= at {
-            return Next::End;
+        match read::step(frame, self.at) {
+            Step::At(g) => {
+                let end = end_of(g);
+                Next::Given(g, Cursor { at: end })
+            }
+            Step::End => Next::End,
+            Step::Fault(_) => Next::End,
         }
-        let left = frame.len() - at;
-        if left < 4 {
-            return Next::End;
-        }
-        let first = frame[at];
-        let pgn = read::pgn_of(first, frame[at + 1], frame[at + 2]);
-        let len = frame[at + 3] as usize;
-        if !read::is_plain(first, pgn, len, left - 4) {
-            return Next::End;
-        }
-        let start = at + 4;
-        let end = start + len;
-        Next::Given(Group { pgn, start, len }, Cursor { at: end })
     }
 }

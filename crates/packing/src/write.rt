@@ -4,38 +4,56 @@ ghost use mathlib.Core.List.{_++_};
 ghost use Prim.Native.Nat.{_+_, _≤_};
 ghost use lib.ListN.{length, drop};
 ghost use lib.Seq.{paste};
-ghost use Rattle.packing.specs.Packing.{headerOf, body, padByte, padding, sum, needed};
+ghost use Rattle.packing.specs.Packing.{headerOf, askedBy, body, padByte, padding, neededBy};
+ghost use Rattle.packing.specs.Shapes.{Even};
 use super::request::size;
 use frame::octet::low_byte;
+use frame::octet::wide;
 use octets::copy;
 
-// The header of a plain group: TOS 2, TF 0, the PGN with its high byte first, the data length.
-pub fn header(pgn: u32, n: u8) -> [u8; 4]
-    ensures { λ r. ⌜ r ≡ headerOf pgn n ⌝ }
+// A header: TOS, TF, the PGN with its high byte first, the length byte.
+fn header(service: u8, format: u8, pgn: u32, payload: u8) -> [u8; 4]
+    ensures { λ r. ⌜ r ≡ headerOf service format pgn payload ⌝ }
 {
     [
-        low_byte(64 + pgn / 65536 % 4),
+        low_byte(32 * wide(service) + 4 * wide(format) + pgn / 65536 % 4),
         low_byte(pgn / 256),
         low_byte(pgn),
-        n,
+        payload,
     ]
 }
 
-// The groups back to back, from the first byte of out.
-pub fn write_groups(pgns: &[u32], lengths: &[u8], data: &[u8], out: &mut [u8])
-    requires { ⌜ (length (now pgns) ≡ length (now lengths)) × (length (now «data») ≡ sum (now lengths)) × (needed (now lengths) ≤ length (now out)) ⌝ }
-    ensures { λ _. ⌜ now (out .exit) ≡ body (now (pgns .entry)) (now (lengths .entry)) (now («data» .entry)) ++ drop (needed (now (lengths .entry))) (now (out .entry)) ⌝ }
+// The groups back to back, from the first byte of out: header, data, trailer.
+pub fn write_groups(
+    services: &[u8],
+    formats: &[u8],
+    pgns: &[u32],
+    lengths: &[u8],
+    trailers: &[u8],
+    data: &[u8],
+    assured: &[u8],
+    out: &mut [u8],
+)
+    requires { ⌜ Even (now services) (now formats) (now pgns) (now lengths) (now trailers) (now «data») (now assured) ⌝ }
+    requires { ⌜ (neededBy (now pgns) (now lengths) (now trailers) ≤ length (now out)) × (length (now out) ≤ 64) ⌝ }
+    ensures { λ _. ⌜ now (out .exit)
+        ≡ body (askedBy (now (services .entry)) (now (formats .entry)) (now (pgns .entry)) (now (lengths .entry)) (now (trailers .entry)) (now («data» .entry)) (now (assured .entry)))
+        ++ drop (neededBy (now (pgns .entry)) (now (lengths .entry)) (now (trailers .entry))) (now (out .entry)) ⌝ }
 {
     let mut i: usize = 0;
     let mut at: usize = 0;
     let mut from: usize = 0;
+    let mut taken: usize = 0;
     while i < pgns.len() {
         let n = size(lengths[i]);
-        let head = header(pgns[i], lengths[i]);
+        let m = size(trailers[i]);
+        let head = header(services[i], formats[i], pgns[i], lengths[i] + trailers[i]);
         copy(out, at, &head, 0, 4);
         copy(out, at + 4, data, from, n);
-        at = at + 4 + n;
+        copy(out, at + 4 + n, assured, taken, m);
+        at = at + 4 + n + m;
         from = from + n;
+        taken = taken + m;
         i = i + 1;
     }
 }

@@ -1,5 +1,5 @@
 -- How long the lines of one record are, where the numbers of its answer have 32 bits: at most 20,000 bytes. The longest are a message's.
-use Prim.Native.Nat.{ℕ, _+_, _*_, _<_, _≤_}
+use Prim.Native.Nat.{ℕ, _+_, _*_, _<_, _≤_, _-_}
 use native.Mathlib.Omega.{arith}
 use mathlib.Core.Path.{_≡_, refl}
 use mathlib.Core.Bool.{Bool, true, false, cond}
@@ -10,7 +10,8 @@ use Rattle.frame.specs.declared.refusal.Refusal.{Refusal}
 use Rattle.frame.specs.Numbers.{number-range}
 use Rattle.frame.specs.declared.judge.Route.{Route}
 use Rattle.multi_pg.specs.declared.Group.{Group}
-use Rattle.multi_pg.specs.Groups.{dataLength, pgnAt, groupAt, GroupsRead, good, bad, groupsRead, groupsIn, groupsOf}
+use Rattle.multi_pg.specs.Groups.{payload, pgnAt, groupAt, endOf, GroupsRead, good, bad, groupsRead, groupsIn, groupsOf}
+use Rattle.multi_pg.specs.Places.{here-end}
 use Rattle.multi_pg.specs.Reader as chain
 use Rattle.multi_pg.specs.Reader.{Chain, good-chain}
 use Rattle.transport.specs.declared.Key.{Key}
@@ -104,26 +105,27 @@ module _ (m : Message) (k : KeySmall (m .key)) (t : Small (m .total .0)) (p : Sm
 -- ---- a Multi-PG frame: a line for each group, and each group takes four bytes at least
 
 module _ (d : List ℕ) (b : Bytes d) (route : Route) (r : RouteSmall route) where
-  group-line : (at : ℕ) → length (groupLine route (groupAt d at)) ≤ 47
-  group-line at =
+  group-line : (at n : ℕ) → length (groupLine route (groupAt d at n)) ≤ 47
+  group-line at n =
       let (x, y) = r in
       let p : pgnAt d at < 4294967296 =
       (let e : getD d at 0 < 256 = b at in
       let f : getD d (at + 1) 0 < 256 = b (at + 1) in
       let g : getD d (at + 2) 0 < 256 = b (at + 2) in
       omega arith) in
-      let n : dataLength d at < 4294967296 = (let e : getD d (at + 3) 0 < 256 = b (at + 3) in omega arith) in
-      line-most pgWord (groupNumbers route (groupAt d at)) 2 4 refl refl (x, (y, (p, (n, tt))))
+      let l : payload d at - n < 4294967296 = (let e : getD d (at + 3) 0 < 256 = b (at + 3) in omega arith) in
+      line-most pgWord (groupNumbers route (groupAt d at n)) 2 4 refl refl (x, (y, (p, (l, tt))))
 
   chain-long : {at : ℕ} {gs : List Group} → at ≤ length d → Chain d at gs → 12 * at + length (groupLines route gs) ≤ 12 * length d
   unfolding groupLines
   chain-long h (chain.last e) = omega arith
-  chain-long {at} h (chain.link {gs = gs} p c) =
-      let i : at + 4 + dataLength d at ≤ length d = p .whole in
-      let l : length (groupLine route (groupAt d at)) ≤ 47 = group-line at in
-      let s : length (groupLine route (groupAt d at) ++ groupLines route gs) ≡ length (groupLine route (groupAt d at)) + length (groupLines route gs) =
-      length-append (groupLine route (groupAt d at)) (groupLines route gs) in
-      let q : 12 * (at + 4 + dataLength d at) + length (groupLines route gs) ≤ 12 * length d = chain-long i c in
+  chain-long {at} h (chain.link {n = n} {gs = gs} p c) =
+      let i : at + 4 + payload d at ≤ length d = p .whole in
+      let e : endOf (groupAt d at n) ≡ at + 4 + payload d at = here-end d at n p in
+      let l : length (groupLine route (groupAt d at n)) ≤ 47 = group-line at n in
+      let s : length (groupLine route (groupAt d at n) ++ groupLines route gs) ≡ length (groupLine route (groupAt d at n)) + length (groupLines route gs) =
+      length-append (groupLine route (groupAt d at n)) (groupLines route gs) in
+      let q : 12 * endOf (groupAt d at n) + length (groupLines route gs) ≤ 12 * length d = chain-long (omega arith) c in
       omega arith
 
   groups-by : (x : GroupsRead) → groupsRead d ≡ x → length (groupLines route (groupsIn x)) ≤ 12 * length d

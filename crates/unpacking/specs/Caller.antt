@@ -17,33 +17,23 @@ use Rattle.multi_pg.specs.declared.Group.{Group}
 use Rattle.multi_pg.specs.Groups.{GroupsRead, good, bad, groupsRead, groupsIn, groupsOf}
 use Rattle.unpacking.specs.declared.Unpacked.{Unpacked}
 use Rattle.unpacking.specs.declared.Unpacked.the-variants.{Groups, Refused}
-use Rattle.unpacking.specs.Unpacking.{rows, unpackedBy, unpacked}
+use Rattle.unpacking.specs.Unpacking.{row, rows, unpackedBy, unpacked}
 use Rattle.unpacking.specs.Count.{few}
 
 -- ---- a group's numbers among those of all
 
-pub rows-length : (gs : List Group) → length (rows gs) ≡ 3 * length gs
+pub rows-length : (gs : List Group) → length (rows gs) ≡ 6 * length gs
 rows-length [] = refl
 rows-length (g ∷ gs) = omega (arith, rows-length gs)
 
-next : (gs : List Group) (g : Group) (i k : ℕ) → k < 3 → getD (rows (g ∷ gs)) (3 * suc i + k) 0 ≡ getD (rows gs) (3 * i + k) 0
-next gs g i k h = let e : 3 * suc i + k ≡ suc (suc (suc (3 * i + k))) = omega arith in ap (λ (m : ℕ). getD (rows (g ∷ gs)) m 0) e
-
-module _ (o : Group) where
-  at-pgn : (gs : List Group) (i : ℕ) → i < length gs → getD (rows gs) (3 * i + 0) 0 ≡ getD gs i o .pgn
-  at-pgn [] i h = absurd (omega arith)
-  at-pgn (g ∷ gs) zero h = refl
-  at-pgn (g ∷ gs) (suc i) h = next gs g i 0 (omega arith) ∙ at-pgn gs i (omega arith)
-
-  at-start : (gs : List Group) (i : ℕ) → i < length gs → getD (rows gs) (3 * i + 1) 0 ≡ getD gs i o .start
-  at-start [] i h = absurd (omega arith)
-  at-start (g ∷ gs) zero h = refl
-  at-start (g ∷ gs) (suc i) h = next gs g i 1 (omega arith) ∙ at-start gs i (omega arith)
-
-  at-len : (gs : List Group) (i : ℕ) → i < length gs → getD (rows gs) (3 * i + 2) 0 ≡ getD gs i o .len
-  at-len [] i h = absurd (omega arith)
-  at-len (g ∷ gs) zero h = refl
-  at-len (g ∷ gs) (suc i) h = next gs g i 2 (omega arith) ∙ at-len gs i (omega arith)
+-- the number at the place k of group i; o is what a look past the list's end would find
+rows-at : (o : Group) (gs : List Group) (i k : ℕ) → i < length gs → k < 6 → getD (rows gs) (6 * i + k) 0 ≡ getD (row (getD gs i o)) k 0
+rows-at o [] i k h b = absurd (omega arith)
+rows-at o (g ∷ gs) zero k h b =
+    let e : 6 * 0 + k ≡ k = omega arith in ap (λ (m : ℕ). getD (rows (g ∷ gs)) m 0) e ∙ List·getD-append (row g) (rows gs) 0 k b
+rows-at o (g ∷ gs) (suc i) k h b =
+    let e : 6 * suc i + k ≡ 6 + (6 * i + k) = omega arith in
+    ap (λ (m : ℕ). getD (rows (g ∷ gs)) m 0) e ∙ getD-append-add (row g) (rows gs) (6 * i + k) 0 ∙ rows-at o gs i k (omega arith) b
 
 -- ---- what an answer tells
 
@@ -52,34 +42,29 @@ pub record Given (d out l : List ℕ) (n : ℕ) : Type 0 where
   pub judged : groupsRead d ≡ good (groupsOf d)
   pub count : n ≡ length (groupsOf d)
   pub most : n ≤ 16
-  pub pgn : (i : ℕ) (o : Group) → i < n → getD l (3 * i) 0 ≡ getD (groupsOf d) i o .pgn
-  pub start : (i : ℕ) (o : Group) → i < n → getD l (3 * i + 1) 0 ≡ getD (groupsOf d) i o .start
-  pub len : (i : ℕ) (o : Group) → i < n → getD l (3 * i + 2) 0 ≡ getD (groupsOf d) i o .len
-  pub rest : (j : ℕ) → 3 * n ≤ j → getD l j 0 ≡ getD out j 0
+  pub numbers : (i k : ℕ) (o : Group) → i < n → k < 6 → getD l (6 * i + k) 0 ≡ getD (row (getD (groupsOf d) i o)) k 0
+  pub rest : (j : ℕ) → 6 * n ≤ j → getD l j 0 ≡ getD out j 0
   pub long : length l ≡ length out
 
 module _ (d out : List ℕ) where
-  given-by : (gs : List Group) → groupsRead d ≡ good gs → length d ≤ 64 → length out ≡ 48 → Given d out (rows gs ++ drop (3 * length gs) out) (length gs)
+  given-by : (gs : List Group) → groupsRead d ≡ good gs → length d ≤ 64 → length out ≡ 96 → Given d out (rows gs ++ drop (6 * length gs) out) (length gs)
   given-by gs e h k =
       let same : gs ≡ groupsOf d = ap groupsIn (sym e) in
       let room : 4 * length gs ≤ length d = few d gs e in
-      let size : length (rows gs) ≡ 3 * length gs = rows-length gs in
-      let D : List ℕ = drop (3 * length gs) out in
+      let size : length (rows gs) ≡ 6 * length gs = rows-length gs in
+      let D : List ℕ = drop (6 * length gs) out in
       record {
         judged = e ∙ ap good same;
         count = ap length same;
         most = omega arith;
-        pgn = λ i o b.
-            let z : 3 * i ≡ 3 * i + 0 = omega arith in
-            ap (λ (m : ℕ). getD (rows gs ++ D) m 0) z ∙ List·getD-append (rows gs) D 0 (3 * i + 0) (omega arith) ∙ at-pgn o gs i b ∙ ap (λ (x : List Group). getD x i o .pgn) same;
-        start = λ i o b. List·getD-append (rows gs) D 0 (3 * i + 1) (omega arith) ∙ at-start o gs i b ∙ ap (λ (x : List Group). getD x i o .start) same;
-        len = λ i o b. List·getD-append (rows gs) D 0 (3 * i + 2) (omega arith) ∙ at-len o gs i b ∙ ap (λ (x : List Group). getD x i o .len) same;
+        numbers = λ i k o b q.
+            List·getD-append (rows gs) D 0 (6 * i + k) (omega arith) ∙ rows-at o gs i k b q ∙ ap (λ (x : List Group). getD (row (getD x i o)) k 0) same;
         rest = λ j b.
-            let z : j ≡ length (rows gs) + (j - 3 * length gs) = omega arith in
-            let y : 3 * length gs + (j - 3 * length gs) ≡ j = omega arith in
+            let z : j ≡ length (rows gs) + (j - 6 * length gs) = omega arith in
+            let y : 6 * length gs + (j - 6 * length gs) ≡ j = omega arith in
             ap (λ (m : ℕ). getD (rows gs ++ D) m 0) z
-            ∙ getD-append-add (rows gs) D (j - 3 * length gs) 0
-            ∙ getD-drop (3 * length gs) out (j - 3 * length gs) 0
+            ∙ getD-append-add (rows gs) D (j - 6 * length gs) 0
+            ∙ getD-drop (6 * length gs) out (j - 6 * length gs) 0
             ∙ ap (λ (m : ℕ). getD out m 0) y;
         long = length-append (rows gs) D ∙ simp length-drop (omega arith);
       }
@@ -90,8 +75,8 @@ module _ (d out : List ℕ) where
   -- Whatever is lent: the answer is a count only where the groups of a good frame are in the list.
   pub given : (n : ℕ) (l : List ℕ) → unpacked d out ≡ (Groups n, l) → Given d out l n
   unfolding unpacked
-  given n l e = go (not (eqb (length out) 48)) refl (not (isLength (length d))) refl (groupsRead d) refl e where
-    go : (a : Bool) → not (eqb (length out) 48) ≡ a → (b : Bool) → not (isLength (length d)) ≡ b → (r : GroupsRead) → groupsRead d ≡ r
+  given n l e = go (not (eqb (length out) 96)) refl (not (isLength (length d))) refl (groupsRead d) refl e where
+    go : (a : Bool) → not (eqb (length out) 96) ≡ a → (b : Bool) → not (isLength (length d)) ≡ b → (r : GroupsRead) → groupsRead d ≡ r
         → cond a (Refused OutOfBounds, out) (cond b (Refused FrameLength, out) (unpackedBy r out)) ≡ (Groups n, l) → Given d out l n
     go true p b q r z e = absurd (never OutOfBounds n l e)
     go false p true q r z e = absurd (never FrameLength n l e)
@@ -99,15 +84,15 @@ module _ (d out : List ℕ) where
     go false p false q (good gs) z e =
         let m : Groups (length gs) ≡ Groups n = ap (λ (p : Unpacked × List ℕ). p .0) e in
         let c : length gs ≡ n = cc in
-        let t : rows gs ++ drop (3 * length gs) out ≡ l = ap (λ (p : Unpacked × List ℕ). p .1) e in
+        let t : rows gs ++ drop (6 * length gs) out ≡ l = ap (λ (p : Unpacked × List ℕ). p .1) e in
         subst (λ (x : List ℕ). Given d out x n) t
-        (subst (λ (x : ℕ). Given d out (rows gs ++ drop (3 * length gs) out) x) c
-        (given-by gs z (length-to (length d) (not-false _ q)) (eqb-true (length out) 48 (not-false _ p))))
+        (subst (λ (x : ℕ). Given d out (rows gs ++ drop (6 * length gs) out) x) c
+        (given-by gs z (length-to (length d) (not-false _ q)) (eqb-true (length out) 96 (not-false _ p))))
 
   -- a refusal leaves the list as it was
   pub refused : (r : Refusal) (l : List ℕ) → unpacked d out ≡ (Refused r, l) → l ≡ out
   unfolding unpacked
-  refused r l e = go (not (eqb (length out) 48)) (not (isLength (length d))) (groupsRead d) e where
+  refused r l e = go (not (eqb (length out) 96)) (not (isLength (length d))) (groupsRead d) e where
     go : (a b : Bool) (x : GroupsRead) → cond a (Refused OutOfBounds, out) (cond b (Refused FrameLength, out) (unpackedBy x out)) ≡ (Refused r, l) → l ≡ out
     go true b x e = sym (ap (λ (p : Unpacked × List ℕ). p .1) e)
     go false true x e = sym (ap (λ (p : Unpacked × List ℕ). p .1) e)
@@ -116,9 +101,9 @@ module _ (d out : List ℕ) where
         let q : Groups (length gs) ≡ Refused r = ap (λ (p : Unpacked × List ℕ). p .0) e in absurd (let z : _≡_ {A = ℕ} 0 1 = cc in omega arith)
 
   -- and a good frame of a CAN FD length is not refused
-  pub answered : length out ≡ 48 → isLength (length d) ≡ true → (gs : List Group) → groupsRead d ≡ good gs → Groups (length gs) ≡ unpacked d out .0
+  pub answered : length out ≡ 96 → isLength (length d) ≡ true → (gs : List Group) → groupsRead d ≡ good gs → Groups (length gs) ≡ unpacked d out .0
   unfolding unpacked
   answered h k gs e =
       ap (λ (p : Unpacked × List ℕ). p .0)
-      (else (not (eqb (length out) 48)) _ _ _ (ap not (eq-eqb (length out) 48 h))
+      (else (not (eqb (length out) 96)) _ _ _ (ap not (eq-eqb (length out) 96 h))
       (else (not (isLength (length d))) _ _ _ (ap not k) (ap (λ (r : GroupsRead). unpackedBy r out) (sym e))))

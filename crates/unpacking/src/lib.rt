@@ -1,4 +1,4 @@
-// All groups of a Multi-PG frame in one call (01, "Groups in one frame").
+// All groups of a Multi-PG frame in one call (01, "Groups in one frame"; 02, E5).
 ghost use mathlib.Core.Path.{_≡_};
 ghost use Rattle.unpacking.specs.Unpacking.{unpacked};
 use fill::fill;
@@ -6,23 +6,24 @@ use fill::first_only;
 use frame::length::is_length;
 use frame::refusal::Refusal;
 use place::first_is_last;
+use row::GROUPS_WORDS;
 
 mod fill;
 mod place;
 mod row;
 
 pub enum Unpacked {
-    // how many; the first numbers of the list are theirs, three for each
+    // how many; the first numbers of the list are theirs, six for each
     Groups(usize),
     Refused(Refusal),
 }
 
-// Writes PGN, start and length of each group into a list of 48 numbers, which holds the groups of any CAN FD frame. The numbers after
-// them, and on a refusal all, stay as they were.
+// Writes the numbers of each group into a list of GROUPS_WORDS, which holds the groups of any CAN FD frame. The numbers after them, and on
+// a refusal all, stay as they were.
 pub fn unpack(frame: &[u8], out: &mut [u32]) -> Unpacked
     ensures { λ r. ⌜ (r, now (out .exit)) ≡ unpacked (now (frame .entry)) (now (out .entry)) ⌝ }
 {
-    if out.len() != 48 {
+    if out.len() != GROUPS_WORDS {
         return Unpacked::Refused(Refusal::OutOfBounds);
     }
     if !is_length(frame.len()) {

@@ -1,5 +1,6 @@
 // Figures of section 6.5: contained parameter groups.
 use super::show;
+use answer::place::cut;
 use multi_pg::Cursor;
 use multi_pg::Group;
 use multi_pg::Judgement;
@@ -11,9 +12,26 @@ fn group(g: Group) {
     show::number(g.pgn as u64);
     show::number(g.start as u64);
     show::number(g.len as u64);
+    if g.service == 1 {
+        show::text(b" format");
+        show::number(g.format as u64);
+    }
 }
 
-// The judgement on a frame and its groups: PGN, place and length of the data. A frame has 16 groups at most.
+// The trailer of a group that ends at a place.
+fn trailer(frame: &[u8], end: usize, len: usize) {
+    if len == 0 {
+        return;
+    }
+    if end < len {
+        return;
+    }
+    show::text(b" trailer");
+    show::bytes(cut(frame, end - len, len));
+}
+
+// The judgement on a frame and its groups: PGN, place and length of the data; where it has one, trailer format and trailer. A frame has
+// 16 groups at most.
 fn read(name: &[u8], frame: &[u8]) {
     show::text(name);
     match multi_pg::read::judge(frame) {
@@ -29,6 +47,7 @@ fn read(name: &[u8], frame: &[u8]) {
         match c.next(frame) {
             Next::Given(g, after) => {
                 group(g);
+                trailer(frame, after.at, g.trailer);
                 c = after;
             }
             Next::End => {}
@@ -56,10 +75,29 @@ fn packed(name: &[u8], out: &[u8], n: usize, at: usize) {
 }
 
 // The frame that a request packs to: its length and its last bytes, from the place at on.
-fn pack(name: &[u8], pgns: &[u32], lengths: &[u8], data: &[u8], at: usize) {
+fn pack(
+    name: &[u8],
+    services: &[u8],
+    formats: &[u8],
+    pgns: &[u32],
+    lengths: &[u8],
+    trailers: &[u8],
+    data: &[u8],
+    assured: &[u8],
+    at: usize,
+) {
     let mut out = [0xEEu8; 64];
     show::text(name);
-    match packing::pack(pgns, lengths, data, &mut out) {
+    match packing::pack(
+        services,
+        formats,
+        pgns,
+        lengths,
+        trailers,
+        data,
+        assured,
+        &mut out,
+    ) {
         Packed::Frame(n) => {
             show::text(b" length");
             show::number(n as u64);
@@ -73,7 +111,7 @@ fn pack(name: &[u8], pgns: &[u32], lengths: &[u8], data: &[u8], at: usize) {
     }
 }
 
-// Figure 17 has TOS 1, which is not taken yet; Figure 18 is a plain group.
+// Figure 17 is a group with a trailer of 4 bytes, Figure 18 a plain one.
 pub fn headers() {
     let figure17 = [
         0x28u8,
@@ -114,25 +152,44 @@ pub fn headers() {
 // Figure 23: 44 bytes of groups in a frame of 48.
 pub fn padding() {
     let data = [0x5Au8; 40];
-    pack(b"figure 23", &[65226u32], &[40u8], &data, 44);
+    pack(
+        b"figure 23",
+        &[2u8],
+        &[0u8],
+        &[65226u32],
+        &[40u8],
+        &[0u8],
+        &data,
+        b"",
+        44,
+    );
 }
 
-// Figures 26 and 27 by their lengths: the assurance data of one group of each counts as data here, since TOS 1 is not taken yet.
+// Figures 26 and 27 by their lengths: one group of each has a trailer, of 4 bytes after 20 of data, and of 8 after 3.
 pub fn examples() {
-    let first = [0x11u8; 45];
+    let first = [0x11u8; 41];
     pack(
         b"figure 26",
+        &[2u8, 1, 2, 2],
+        &[0u8, 1, 0, 0],
         &[59904u32, 65200, 64210, 65226],
-        &[3u8, 24, 8, 10],
+        &[3u8, 20, 8, 10],
+        &[0u8, 4, 0, 0],
         &first,
+        &[0x33u8, 0x33, 0x33, 0x33],
         61,
     );
-    let second = [0x22u8; 20];
+    let second = [0x22u8; 12];
+    let assured = [0x44u8; 8];
     pack(
         b"figure 27",
+        &[2u8, 1, 2, 2],
+        &[0u8, 5, 0, 0],
         &[59904u32, 59904, 59904, 59904],
-        &[3u8, 11, 3, 3],
+        &[3u8, 3, 3, 3],
+        &[0u8, 8, 0, 0],
         &second,
+        &assured,
         36,
     );
 }

@@ -19,19 +19,19 @@ use Rattle.unpacking.proofs.unpack.Statement.{statement}
 use Rattle.unpacking.proofs.unpack.Tie as tie
 
 module _ (d o : List ℕ) where
-  other-list : (length o ≡ 48 → ⊥) → (Refused OutOfBounds, o) ≡ unpacked d o
+  other-list : (length o ≡ 96 → ⊥) → (Refused OutOfBounds, o) ≡ unpacked d o
   unfolding unpacked
-  other-list h = then (not (eqb (length o) 48)) _ _ _ (ap not (ne-eqb (length o) 48 h)) refl
+  other-list h = then (not (eqb (length o) 96)) _ _ _ (ap not (ne-eqb (length o) 96 h)) refl
 
-  other-length : length o ≡ 48 → isLength (length d) ≡ false → (Refused FrameLength, o) ≡ unpacked d o
+  other-length : length o ≡ 96 → isLength (length d) ≡ false → (Refused FrameLength, o) ≡ unpacked d o
   unfolding unpacked
   other-length h k =
-      else (not (eqb (length o) 48)) _ _ _ (ap not (eq-eqb (length o) 48 h)) (then (not (isLength (length d))) _ _ _ (ap not k) refl)
+      else (not (eqb (length o) 96)) _ _ _ (ap not (eq-eqb (length o) 96 h)) (then (not (isLength (length d))) _ _ _ (ap not k) refl)
 
-  whole : (x : Unpacked × List ℕ) → length o ≡ 48 → isLength (length d) ≡ true → x ≡ unpackedBy (groupsRead d) o → x ≡ unpacked d o
+  whole : (x : Unpacked × List ℕ) → length o ≡ 96 → isLength (length d) ≡ true → x ≡ unpackedBy (groupsRead d) o → x ≡ unpacked d o
   unfolding unpacked
   whole x h k e =
-      else (not (eqb (length o) 48)) _ _ _ (ap not (eq-eqb (length o) 48 h)) (else (not (isLength (length d))) _ _ _ (ap not k) e)
+      else (not (eqb (length o) 96)) _ _ _ (ap not (eq-eqb (length o) 96 h)) (else (not (isLength (length d))) _ _ _ (ap not k) e)
 
 returns : tie.Need-returns
 returns c = other-list (c .before .before .before .args .frame .now) (now (c .before .before .before .args .out)) (c .if1 .taken)

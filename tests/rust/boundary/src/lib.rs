@@ -91,12 +91,20 @@ mod header {
         ) -> u8;
         pub fn dwb_groups(bytes: *const u8, bytes_len: usize, groups: *mut u32, groups_words: usize) -> usize;
         pub fn dwb_pack(
+            services: *const u8,
+            services_len: usize,
+            formats: *const u8,
+            formats_len: usize,
             pgns: *const u32,
             pgns_len: usize,
             lengths: *const u8,
             lengths_len: usize,
+            trailer_lengths: *const u8,
+            trailer_lengths_len: usize,
             data: *const u8,
             data_bytes: usize,
+            trailers: *const u8,
+            trailers_bytes: usize,
             out: *mut u8,
             out_bytes: usize,
         ) -> usize;
@@ -104,7 +112,7 @@ mod header {
 }
 
 /// DWB_VERSION of the header that these declarations are of.
-pub const VERSION: u32 = 3;
+pub const VERSION: u32 = 4;
 
 pub fn version() -> u32 {
     unsafe { header::dwb_version() }
@@ -250,15 +258,33 @@ pub fn groups(bytes: &[u8], groups: &mut [u32]) -> usize {
     unsafe { header::dwb_groups(bytes.as_ptr(), bytes.len(), groups.as_mut_ptr(), groups.len()) }
 }
 
-pub fn pack(pgns: &[u32], lengths: &[u8], data: &[u8], out: &mut [u8]) -> usize {
+#[allow(clippy::too_many_arguments)]
+pub fn pack(
+    services: &[u8],
+    formats: &[u8],
+    pgns: &[u32],
+    lengths: &[u8],
+    trailer_lengths: &[u8],
+    data: &[u8],
+    trailers: &[u8],
+    out: &mut [u8],
+) -> usize {
     unsafe {
         header::dwb_pack(
+            services.as_ptr(),
+            services.len(),
+            formats.as_ptr(),
+            formats.len(),
             pgns.as_ptr(),
             pgns.len(),
             lengths.as_ptr(),
             lengths.len(),
+            trailer_lengths.as_ptr(),
+            trailer_lengths.len(),
             data.as_ptr(),
             data.len(),
+            trailers.as_ptr(),
+            trailers.len(),
             out.as_mut_ptr(),
             out.len(),
         )

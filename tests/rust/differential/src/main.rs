@@ -1,6 +1,7 @@
 //! Holds the archive against the rules, call by call, over fixed seeds, and runs the trace samples through it. Exit status 0 only if no
 //! call differed and everything came up that can.
 
+mod groups;
 mod limits;
 mod network;
 mod pair;
@@ -9,6 +10,7 @@ mod repeats;
 mod samples;
 mod sender;
 mod traffic;
+mod trailers;
 mod waits;
 
 use network::Counts;
@@ -169,6 +171,7 @@ fn print_whole(whole: &Tally) {
     println!("open keys: {}", forms.join(", "));
     let forms: Vec<String> = whole.waits.iter().enumerate().map(|(i, n)| format!("{}: {n}", waits::name(i))).collect();
     println!("two limits: {}", forms.join("; "));
+    println!("{}", trailers::line(&whole.trailers));
 }
 
 /// Every refusal and every answer has to have come up.

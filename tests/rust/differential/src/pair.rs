@@ -12,10 +12,13 @@ macro_rules! same {
 
 mod sending;
 
+use crate::groups::Lists;
 use crate::random::Random;
 use crate::repeats::{self, Form, Watch};
+use crate::trailers;
 use crate::waits;
-use rules::calls::{self, Code, ANSWERS_BYTES, ANSWER_BYTES, GROUPS_WORDS, RECORD_BYTES};
+use rules::calls::{self, Code, ANSWERS_BYTES, ANSWER_BYTES, GROUPS_WORDS, GROUP_WORDS, RECORD_BYTES};
+use rules::groups::Group;
 use rules::receiver::{Limits, Receiver, STORE_BYTES};
 use rules::sender_calls::{self, FRAME_BYTES, SENDER_BYTES, TRANSFER_ANSWERS_BYTES};
 use std::fmt::{Debug, Display};
@@ -27,7 +30,7 @@ const LARGEST: Sizes = Sizes {
     store: 36_864,
     answer: 80,
     answers: 400,
-    groups: 64,
+    groups: 128,
     out: 5_000,
     sender: 160,
     frame: 128,
@@ -97,7 +100,7 @@ struct Calls {
     reading: fn(&mut [u8], u32, &[u8], &mut [u8]) -> u8,
     message: fn(&[u8], &[u8], &mut [u8]) -> usize,
     groups: fn(&[u8], &mut [u32]) -> usize,
-    pack: fn(&[u32], &[u8], &[u8], &mut [u8]) -> usize,
+    pack: fn(&[u8], &[u8], &[u32], &[u8], &[u8], &[u8], &[u8], &mut [u8]) -> usize,
     sender_open: fn(&mut [u8], u8, u32, u32) -> u8,
     announce: fn(&mut [u8], u8, u8, u32, &[u8], &mut [u8], &mut [u8]) -> u8,
     next_frame: fn(&mut [u8], u8, u8, &[u8], &mut [u8], &mut [u8]) -> u8,
@@ -198,6 +201,7 @@ pub struct Tally {
     pub repeats: [u64; repeats::NAMES.len()],
     /// By form of `waits`.
     pub waits: [u64; waits::FORMS],
+    pub trailers: trailers::Counts,
 }
 
 impl Tally {
@@ -210,6 +214,9 @@ impl Tally {
         self.codes.iter_mut().zip(other.codes).for_each(|(a, b)| *a += b);
         self.repeats.iter_mut().zip(other.repeats).for_each(|(a, b)| *a += b);
         self.waits.iter_mut().zip(other.waits).for_each(|(a, b)| *a += b);
+        for (&form, count) in &other.trailers {
+            *self.trailers.entry(form).or_default() += count;
+        }
     }
 }
 
@@ -288,10 +295,9 @@ impl Pair {
         calls::read_record(self.record())
     }
 
-    /// One group of the last `groups`: PGN, start, length.
-    pub fn group(&self, i: usize) -> (u32, usize, usize) {
-        let words = &self.archive.groups.lent(GROUPS_WORDS)[3 * i..3 * i + 3];
-        (words[0], words[1] as usize, words[2] as usize)
+    /// One group of the last `groups`.
+    pub fn group(&self, i: usize) -> Group {
+        calls::read_group(&self.archive.groups.lent(GROUPS_WORDS)[GROUP_WORDS * i..])
     }
 
     /// The first bytes of the output of the last `pack` or `message`.
@@ -332,6 +338,12 @@ impl Pair {
     fn count_forms(&mut self, forms: Vec<Form>) {
         for form in forms {
             self.tally.repeats[form as usize] += 1;
+        }
+    }
+
+    fn count_trailers(&mut self, forms: Vec<trailers::Form>) {
+        for form in forms {
+            *self.tally.trailers.entry(form).or_default() += 1;
         }
     }
 
@@ -459,19 +471,25 @@ impl Pair {
         same!(self, name, groups);
         self.tally.numbers[count >> 8] += 1;
         self.tally.groups += count as u64 & 0xFF;
+        self.count_trailers(trailers::of_frame(bytes, (count >> 8) as u8));
         Ok(count)
     }
 
     /// The frame's length, or 256 times the number of the refusal.
-    pub fn pack(&mut self, pgns: &[u32], lengths: &[u8], data: &[u8]) -> Verdict<usize> {
+    pub fn pack(&mut self, lists: &Lists) -> Verdict<usize> {
         let (sizes, noise) = (self.sizes, self.next_noise());
-        let name = || format!("pack of {pgns:?} {lengths:?} {}, {sizes:?}", hex(data));
+        let name = || format!("pack of {lists:?}, {sizes:?}");
+        let lent = lists.clone();
         let length = self.both(name, |side| {
             side.out.lent_mut(LARGEST.out).fill(noise);
-            (side.calls.pack)(pgns, lengths, data, side.out.lent_mut(sizes.out))
+            let Lists { services, formats, pgns, lengths, trailer_lengths, data, trailers } = &lent;
+            let out = side.out.lent_mut(sizes.out);
+            (side.calls.pack)(services, formats, pgns, lengths, trailer_lengths, data, trailers, out)
         })?;
         same!(self, name, out);
+        expect(lent == *lists, || format!("{}: wrote into a list", name()))?;
         self.tally.numbers[length >> 8] += 1;
+        self.count_trailers(trailers::of_request(lists, sizes.out, (length >> 8) as u8));
         Ok(length)
     }
 }

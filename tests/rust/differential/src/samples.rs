@@ -106,8 +106,8 @@ impl Run<'_> {
         let given = self.pair.frame(id, bytes)?;
         if given.is(Code::Groups) {
             for i in 0..self.pair.groups(bytes)? {
-                let (pgn, _, length) = self.pair.group(i);
-                self.line(format_args!("pg {} {} {pgn} {length}", id & 0xFF, id >> 8 & 0xFF));
+                let group = self.pair.group(i);
+                self.line(format_args!("pg {} {} {} {}", id & 0xFF, id >> 8 & 0xFF, group.pgn, group.length));
             }
         } else {
             self.answer(&given);

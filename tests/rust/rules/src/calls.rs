@@ -2,7 +2,7 @@
 //! alone.
 
 use crate::frame::{self, DATA_LENGTHS};
-use crate::groups;
+use crate::groups::{self, Group, Request};
 use crate::receiver::{Answer, Ending, Key, Kind, Limits, Receiver, Session, Wait, SLOTS, SLOT_BYTES};
 use crate::sent::{self, Sent};
 use crate::Refusal;
@@ -10,7 +10,9 @@ use crate::Refusal;
 pub const RECORD_BYTES: usize = 261;
 pub const ANSWER_BYTES: usize = 36;
 pub const ANSWERS_BYTES: usize = SLOTS * ANSWER_BYTES;
-pub const GROUPS_WORDS: usize = 48;
+/// Sixteen groups at most, of so many numbers each.
+pub const GROUPS_WORDS: usize = 96;
+pub const GROUP_WORDS: usize = 6;
 const HEAD_BYTES: usize = 13;
 const SLOT_RECORD_BYTES: usize = 31;
 
@@ -98,16 +100,40 @@ pub fn groups(bytes: &[u8], groups: &mut [u32]) -> usize {
     match groups::read(bytes) {
         Err(refusal) => refused(refusal),
         Ok(found) => {
-            for (place, group) in groups.chunks_exact_mut(3).zip(&found) {
-                place.copy_from_slice(&[group.pgn, group.start as u32, group.length as u32]);
+            for (place, group) in groups.chunks_exact_mut(GROUP_WORDS).zip(&found) {
+                place.copy_from_slice(&group_words(group));
             }
             found.len()
         }
     }
 }
 
-pub fn pack(pgns: &[u32], lengths: &[u8], data: &[u8], out: &mut [u8]) -> usize {
-    match groups::pack(pgns, lengths, data, out.len()) {
+fn group_words(group: &Group) -> [u32; GROUP_WORDS] {
+    let Group { pgn, service, format, start, length, trailer } = *group;
+    [pgn, service.into(), format.into(), start as u32, length as u32, trailer as u32]
+}
+
+/// The group that these six numbers stand for.
+pub fn read_group(words: &[u32]) -> Group {
+    let [service, format] = [1, 2].map(|at| words[at] as u8);
+    let [start, length, trailer] = [3, 4, 5].map(|at| words[at] as usize);
+    Group { pgn: words[0], service, format, start, length, trailer }
+}
+
+/// The header's own order of the lists.
+#[allow(clippy::too_many_arguments)]
+pub fn pack(
+    services: &[u8],
+    formats: &[u8],
+    pgns: &[u32],
+    lengths: &[u8],
+    trailer_lengths: &[u8],
+    data: &[u8],
+    trailers: &[u8],
+    out: &mut [u8],
+) -> usize {
+    let request = Request { services, formats, pgns, lengths, trailer_lengths, data, trailers };
+    match request.pack(out.len()) {
         Err(refusal) => refused(refusal),
         Ok(frame) => {
             out[..frame.len()].copy_from_slice(&frame);

@@ -1,4 +1,4 @@
-use Prim.Native.Nat.{_-_}
+use Prim.Native.Nat.{ℕ, _-_}
 use mathlib.Core.Path.{_≡_, sym, ap, _∙_}
 use lib.ListN.{length}
 use native.Mathlib.Omega.{arith}
@@ -23,26 +23,31 @@ step-requires c κs = search needs
 enum-known-g : tie.Need-enum-known-g Inv-loop μ-loop
 enum-known-g c = search needs
 
-add-at : tie.Need-add-at Inv-loop μ-loop
-add-at c =
-    let at-step = c .before .before .before .before in
+end-of-requires : tie.Need-end-of-requires Inv-loop μ-loop
+end-of-requires c κs =
+    let at-g = c .before in
+    let at-step = at-g .before .before in
     let at-loop = at-step .before in
     let start = at-loop .before .before in
-    omega (arith, step-room (start .args .frame .now) (at-loop .loop .at) (c .before .before .g .given .0 .0) (sym (at-step .step .ensures) ∙ c .before .before .g .given .1))
+    omega (arith, step-room (start .args .frame .now) (at-loop .loop .at) (at-g .g .given .0 .0) (sym (at-step .step .ensures) ∙ at-g .g .given .1))
 
 loop-less : tie.Need-loop-less Inv-loop μ-loop
 loop-less c =
-    let at-step = c .before .before .before .before in
+    let at-g = c .before .before in
+    let at-step = at-g .before .before in
     let at-loop = at-step .before in
     let start = at-loop .before .before in
-    omega (arith, step-room (start .args .frame .now) (at-loop .loop .at) (c .before .before .g .given .0 .0) (sym (at-step .step .ensures) ∙ c .before .before .g .given .1))
+    omega (arith, step-room (start .args .frame .now) (at-loop .loop .at) (at-g .g .given .0 .0) (sym (at-step .step .ensures) ∙ at-g .g .given .1), c .end-of .ensures)
 
 loop-again : tie.Need-loop-again Inv-loop μ-loop
 loop-again c =
-    let at-step = c .before .before .before .before in
+    let at-g = c .before .before in
+    let at-step = at-g .before .before in
     let at-loop = at-step .before in
     let start = at-loop .before .before in
-    sym (judged-on (start .args .frame .now) (at-loop .loop .at) (c .before .before .g .given .0 .0) (sym (at-step .step .ensures) ∙ c .before .before .g .given .1)) ∙ at-loop .loop .inv
+    ap (λ (to : ℕ). judgementOf (readOn (start .args .frame .now) to)) (c .end-of .ensures)
+    ∙ sym (judged-on (start .args .frame .now) (at-loop .loop .at) (at-g .g .given .0 .0) (sym (at-step .step .ensures) ∙ at-g .g .given .1))
+    ∙ at-loop .loop .inv
 
 enum-told : tie.Need-enum-told Inv-loop μ-loop
 enum-told c = search needs
@@ -54,7 +59,11 @@ enum-known-r : tie.Need-enum-known-r Inv-loop μ-loop
 enum-known-r c = search needs
 
 returns-2 : tie.Need-returns-2 Inv-loop μ-loop
-returns-2 c = sym (ap judgementOf (read-fault _ _ _ (sym (c .before .before .before .step .ensures) ∙ c .before .r .given .1))) ∙ c .before .before .before .before .loop .inv
+returns-2 c =
+    let at-r = c .before in
+    let at-step = at-r .before .before in
+    let at-loop = at-step .before in
+    sym (ap judgementOf (read-fault _ _ _ (sym (at-step .step .ensures) ∙ at-r .r .given .1))) ∙ at-loop .loop .inv
 
 pub judge-spec : {M : Type 1} → statement M
 judge-spec =
@@ -65,7 +74,7 @@ judge-spec =
     loop-holds
     step-requires
     enum-known-g
-    add-at
+    end-of-requires
     loop-less
     loop-again
     enum-told

@@ -1,28 +1,16 @@
-use Prim.Native.Nat.{ℕ, _+_, _-_, _≤_, _<_}
-use mathlib.Core.Path.{_≡_, refl, sym, _∙_}
-use mathlib.Core.Bool.{true, false}
-use mathlib.Core.List.{List, _∷_}
+use Prim.Native.Nat.{ℕ, _+_, _-_, _≤_}
+use mathlib.Core.Path.{_≡_, sym, _∙_}
+use native.Mathlib.Omega.{arith}
 use lib.ListN.{length, drop, getD}
 use denote.Ref.{now}
-use native.Mathlib.Omega.{arith}
 use borrow.Author.Tests.{not-true, not-false}
-use Rattle.laws.specs.Choice.{and-next, and-stop}
-use Rattle.laws.specs.Turn.{turn, end}
 use Rattle.frame.specs.Pgn.{pgnOk}
+use Rattle.laws.specs.Turn.{end}
 use Rattle.packing.specs.Packing.{pgnsOk}
+use Rattle.packing.proofs.Checks.{failed, passed, every-turn}
 use borrow.Author.Needs.{needs}
 use Rattle.packing.proofs.request.all_pgns.Statement.{statement}
 use Rattle.packing.proofs.request.all_pgns.Tie as tie
-
-module _ (l : List ℕ) (i : ℕ) (low : i < length l) (inv : pgnsOk (drop i l) ≡ pgnsOk l) where
-  at-turn : pgnsOk (getD l i 0 ∷ drop (i + 1) l) ≡ pgnsOk l
-  at-turn = sym (turn pgnsOk l i 0 low) ∙ inv
-
-  failed : pgnOk (getD l i 0) ≡ false → false ≡ pgnsOk l
-  failed e = and-stop (pgnOk (getD l i 0)) _ e ∙ at-turn
-
-  passed : pgnOk (getD l i 0) ≡ true → pgnsOk (drop (i + 1) l) ≡ pgnsOk l
-  passed e = and-next (pgnOk (getD l i 0)) _ _ e refl ∙ at-turn
 
 abbrev Inv-loop : tie.InvT-loop
 Inv-loop pgns i₀ i = (i ≤ length pgns) × (pgnsOk (drop i pgns) ≡ pgnsOk pgns)
@@ -44,9 +32,12 @@ is-pgn-requires c κs = search needs
 
 returns : tie.Need-returns Inv-loop μ-loop
 returns c =
-    let at-loop = c .before .before .before .before in
+    let at-is-pgn = c .before in
+    let at-loop = at-is-pgn .before .before .before in
     let start = at-loop .before .before in
-    failed (now (start .args .pgns)) (at-loop .loop .i) (omega arith) (at-loop .loop .inv .1) (sym (c .before .is-pgn .ensures) ∙ not-true _ (c .if1 .taken))
+    failed (pgnsOk (now (start .args .pgns))) (pgnsOk (drop (at-loop .loop .i) (now (start .args .pgns)))) (pgnsOk (drop (at-loop .loop .i + 1) (now (start .args .pgns)))) (pgnOk (getD (now (start .args .pgns)) (at-loop .loop .i) 0)) (at-loop .loop .inv .1)
+    (every-turn pgnOk (now (start .args .pgns)) (at-loop .loop .i) (omega arith))
+    (sym (at-is-pgn .is-pgn .ensures) ∙ not-true _ (c .if1 .taken))
 
 add-i : tie.Need-add-i Inv-loop μ-loop
 add-i c = search needs
@@ -56,9 +47,14 @@ loop-less c = search needs
 
 loop-again : tie.Need-loop-again Inv-loop μ-loop
 loop-again c =
-    let at-loop = c .before .before .before .before in
-    let start = at-loop .before .before in
-    (search needs, passed (now (start .args .pgns)) (at-loop .loop .i) (omega arith) (at-loop .loop .inv .1) (sym (c .before .is-pgn .ensures) ∙ not-false _ (c .if1 .left)))
+    let at-is-pgn = c .before in
+    let at-loop = at-is-pgn .before .before .before in
+    let start = at-loop .before .before in (
+      search needs,
+      passed (pgnsOk (now (start .args .pgns))) (pgnsOk (drop (at-loop .loop .i) (now (start .args .pgns)))) (pgnsOk (drop (at-loop .loop .i + 1) (now (start .args .pgns)))) (pgnOk (getD (now (start .args .pgns)) (at-loop .loop .i) 0)) (at-loop .loop .inv .1)
+          (every-turn pgnOk (now (start .args .pgns)) (at-loop .loop .i) (omega arith))
+          (sym (at-is-pgn .is-pgn .ensures) ∙ not-false _ (c .if1 .left)),
+    )
 
 returns-2 : tie.Need-returns-2 Inv-loop μ-loop
 returns-2 c = sym (end pgnsOk (now (c .before .before .before .args .pgns)) (c .before .loop .i) (omega arith)) ∙ c .before .loop .inv .1

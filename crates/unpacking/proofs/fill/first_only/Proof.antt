@@ -13,22 +13,12 @@ step-requires c κs = search needs
 enum-known-g : tie.Need-enum-known-g
 enum-known-g c = search needs
 
-cast-write : tie.Need-cast-write
-cast-write c =
-    let at-g = c .before .before .before in
-    let at-step = at-g .before .before in
-    let start = at-step .before .before .before in
-    omega (arith, step-room (start .args .frame .now) 0 (at-g .g .given .0 .0) (sym (at-step .step .ensures) ∙ at-g .g .given .1), start .pre .1)
-
-cast-write-2 : tie.Need-cast-write-2
-cast-write-2 c =
-    let at-g = c .before .before .before .before in
-    let at-step = at-g .before .before in
-    let start = at-step .before .before .before in
-    omega (arith, step-room (start .args .frame .now) 0 (at-g .g .given .0 .0) (sym (at-step .step .ensures) ∙ at-g .g .given .1), start .pre .1)
-
 write-requires : tie.Need-write-requires
-write-requires c κs = search needs
+write-requires c κs =
+    let at-g = c .before .before in
+    let at-step = at-g .before .before in
+    let start = at-step .before .before .before in
+    (omega (arith, start .pre .2), omega (arith, step-room (start .args .frame .now) 0 (at-g .g .given .0 .0) (sym (at-step .step .ensures) ∙ at-g .g .given .1), start .pre .1))
 
 enum-told : tie.Need-enum-told
 enum-told c = search needs
@@ -41,22 +31,25 @@ same-length c = search needs
 
 returns : tie.Need-returns
 returns c =
-    let at-g = c .before .before .before .before .before .before .before in
+    let at-write = c .before .before in
+    let at-g = at-write .before .before .before in
     let at-step = at-g .before .before in
     let start = at-step .before .before .before in
     one-row (start .args .frame .now) (now (start .args .out)) (at-g .g .given .0 .0) _ (omega (arith, start .pre .2)) (start .pre .0)
-    (sym (at-step .step .ensures) ∙ at-g .g .given .1) (c .before .before .write .ensures)
+    (sym (at-step .step .ensures) ∙ at-g .g .given .1) (at-write .write .ensures)
 
 returns-2 : tie.Need-returns-2
 returns-2 c =
-    let start = c .before .before .before .before .before in
-    no-row (start .args .frame .now) (now (start .args .out)) (sym (c .before .before .step .ensures) ∙ c .enum-told .given .1)
+    let at-step = c .before .before in
+    let start = at-step .before .before .before in
+    no-row (start .args .frame .now) (now (start .args .out)) (sym (at-step .step .ensures) ∙ c .enum-told .given .1)
 
 returns-3 : tie.Need-returns-3
 returns-3 c =
-    let at-step = c .before .before .before in
+    let at-r = c .before in
+    let at-step = at-r .before .before in
     let start = at-step .before .before .before in
-    bad-row (start .args .frame .now) (now (start .args .out)) (c .before .r .given .0 .0) (sym (at-step .step .ensures) ∙ c .before .r .given .1)
+    bad-row (start .args .frame .now) (now (start .args .out)) (at-r .r .given .0 .0) (sym (at-step .step .ensures) ∙ at-r .r .given .1)
 
 pub first-only-spec : {M : Type 1} → statement M
 first-only-spec =
@@ -64,8 +57,6 @@ first-only-spec =
     (tie.spec
     step-requires
     enum-known-g
-    cast-write
-    cast-write-2
     write-requires
     enum-told
     enum-known-r

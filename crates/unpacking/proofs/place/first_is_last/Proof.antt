@@ -7,21 +7,21 @@ use lib.Dec.{eqb, leb, ltb}
 use lib.ListN.{length, getD}
 use borrow.Author.Tests.{lt-ltb, le-ltb, le-leb, lt-leb}
 use Rattle.laws.specs.Choice.{then, else}
-use Rattle.multi_pg.specs.Groups.{dataLength}
+use Rattle.multi_pg.specs.Groups.{payload}
 use Rattle.unpacking.specs.Places.{firstIsLast}
 use borrow.Author.Needs.{needs}
 use Rattle.unpacking.proofs.place.first_is_last.Statement.{statement}
 use Rattle.unpacking.proofs.place.first_is_last.Tie as tie
 
 -- w is the first header's data length
-module _ (d : List ℕ) (w : ℕ) (e : w ≡ dataLength d 0) (whole : 4 ≤ length d) where
+module _ (d : List ℕ) (w : ℕ) (e : w ≡ payload d 0) (whole : 4 ≤ length d) where
   by-end : length d ≤ 4 + w → true ≡ firstIsLast d
-  by-end h = else (ltb (length d) 4) _ _ _ (le-ltb (length d) 4 whole) (then (leb (length d) (4 + dataLength d 0)) _ _ _ (le-leb (length d) (4 + dataLength d 0) (omega arith)) refl)
+  by-end h = else (ltb (length d) 4) _ _ _ (le-ltb (length d) 4 whole) (then (leb (length d) (4 + payload d 0)) _ _ _ (le-leb (length d) (4 + payload d 0) (omega arith)) refl)
 
   by-byte : 4 + w < length d → eqb (getD d (4 + w) 0 / 32) 0 ≡ firstIsLast d
   by-byte h =
       else (ltb (length d) 4) _ _ _ (le-ltb (length d) 4 whole)
-      (else (leb (length d) (4 + dataLength d 0)) _ _ _ (lt-leb (length d) (4 + dataLength d 0) (omega arith))
+      (else (leb (length d) (4 + payload d 0)) _ _ _ (lt-leb (length d) (4 + payload d 0) (omega arith))
       (ap (λ (n : ℕ). eqb (getD d (4 + n) 0 / 32) 0) e))
 
 returns : tie.Need-returns

@@ -9,6 +9,7 @@ use Rattle.multi_pg.proofs.Cursor.next.Reads as next-reads
 use Rattle.multi_pg.proofs.Cursor.over.Reads as over-reads
 use Rattle.multi_pg.proofs.read.judge.Reads as judge-reads
 use Rattle.vectors.proofs.groups.group.Reads as group-reads
+use Rattle.vectors.proofs.groups.trailer.Reads as trailer-reads
 use Rattle.vectors.proofs.show.end.Reads as end-reads
 use Rattle.vectors.proofs.show.number.Reads as show-number-reads
 use Rattle.vectors.proofs.show.text.Reads as text-reads
@@ -67,6 +68,9 @@ enum-known-g c = search needs
 group-requires : tie.Need-group-requires Inv-loop μ-loop
 group-requires c κs = search needs
 
+trailer-requires : tie.Need-trailer-requires Inv-loop μ-loop
+trailer-requires c κs = search needs
+
 enum-told-2 : tie.Need-enum-told-2 Inv-loop μ-loop
 enum-told-2 c = search needs
 
@@ -107,6 +111,7 @@ read-spec =
     next-requires
     enum-known-g
     group-requires
+    trailer-requires
     enum-told-2
     add-turn
     loop-less

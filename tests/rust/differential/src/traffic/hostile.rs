@@ -66,12 +66,17 @@ fn beside(random: &mut Random, own: u8) -> Frame {
     Frame { id, bytes }
 }
 
-/// A Multi-PG frame of one group, good or cut.
+/// The first byte of a group, of any service type; most have one of the six good pairs.
+const GROUP_FIRST: [u8; 16] =
+    [0x40, 0x40, 0x40, 0x24, 0x24, 0x28, 0x28, 0x2C, 0x2C, 0x34, 0x34, 0x38, 0x38, 0x20, 0x30, 0x64];
+
+/// A Multi-PG frame of one group, with a trailer or without, good or cut.
 fn groups(random: &mut Random, own: u8) -> Frame {
     let line = line(random, own);
     let length = random.pick(&[3, 4, 5, 8, 12, 64]);
     let mut bytes = random.bytes(length);
-    bytes[..3].copy_from_slice(&[0x40, 0xFE, 0xCA]);
+    let first = GROUP_FIRST[usize::from(bytes[0] % 16)];
+    bytes[..3].copy_from_slice(&[first, 0xFE, 0xCA]);
     if length > 3 {
         bytes[3] = (length - 4) as u8 + u8::from(random.once_in(3));
     }

@@ -5,6 +5,7 @@ mod hostile;
 mod multi_pg;
 mod network;
 mod node;
+mod packing;
 mod records;
 mod repeated;
 mod replies;
@@ -44,8 +45,8 @@ pub const KINDS: [Kind; 24] = [
     Kind { name: "records of any fields", calls: 90_000, must_refuse: &[23], run: records::any_fields },
     Kind { name: "records at the edges", calls: 300_000, must_refuse: &[18, 19, 20, 21, 22, 23], run: records::edges },
     Kind { name: "buffers of other lengths", calls: 90_000, must_refuse: &[23], run: records::other_lengths },
-    Kind { name: "Multi-PG frames", calls: 225_000, must_refuse: &[1, 4, 5, 6, 7, 8], run: multi_pg::frames },
-    Kind { name: "packing", calls: 225_000, must_refuse: &[8, 24], run: multi_pg::packing },
+    Kind { name: "Multi-PG frames", calls: 300_000, must_refuse: &[1, 4, 5, 6, 7, 8], run: multi_pg::frames },
+    Kind { name: "packing", calls: 300_000, must_refuse: &[6, 7, 8, 24], run: packing::packing },
     Kind { name: "least lengths and openings", calls: 120_000, must_refuse: &[23], run: small::lengths_and_openings },
     Kind { name: "messages of any answer", calls: 90_000, must_refuse: &[], run: small::messages },
     Kind {

@@ -261,7 +261,7 @@ fn other_sizes(random: &mut Random) -> Sizes {
         sizes.answers = random.pick(&[0, 1, 36, 252, 287, 289, 324]);
     }
     if which == 4 || which == 5 {
-        sizes.groups = random.pick(&[0, 1, 3, 45, 47, 49, 51, 64]);
+        sizes.groups = random.pick(&[0, 1, 6, 48, 90, 95, 97, 102]);
     }
     sizes
 }

@@ -4,7 +4,7 @@
 mod other_end;
 mod restart;
 
-use rules::groups::{pack, read, Group};
+use rules::groups::{read, Group, Request};
 use rules::receiver::{Answer, Ending, Key, Kind, Limits, Receiver, STORE_BYTES};
 use rules::{sent, Refusal};
 
@@ -28,7 +28,7 @@ fn refused_rts(refusal: Refusal) -> Answer {
 
 #[test]
 fn p1_to_p5() {
-    let one = Group { pgn: 59_904, start: 4, length: 3 };
+    let one = Group { pgn: 59_904, service: 2, format: 0, start: 4, length: 3, trailer: 0 };
     assert_eq!(read(&[0x40, 0xEA, 0x00, 0x03, 0xCA, 0xFE, 0x00]), Ok(vec![one]));
     assert_eq!(read(&[]), Ok(vec![]));
     assert_eq!(read(&[0x40, 0xFE, 0xCA]), Err(Refusal::GroupHeaderCut));
@@ -36,11 +36,17 @@ fn p1_to_p5() {
     assert_eq!(read(&[0x40, 0xEA, 0x21, 0x00]), Err(Refusal::WrongPgn));
 }
 
+/// One plain group of this data, packed.
+fn packed(data: &[u8]) -> Vec<u8> {
+    let (services, formats, pgns, lengths) = (&[2], &[0], &[PGN], &[data.len() as u8]);
+    let request = Request { services, formats, pgns, lengths, trailer_lengths: &[0], data, trailers: &[] };
+    request.pack(64).unwrap()
+}
+
 #[test]
 fn p6_and_p7() {
-    let p6 = pack(&[PGN], &[5], &[1; 5], 64).unwrap();
-    assert_eq!(p6, [0x40, 0xFE, 0xCA, 5, 1, 1, 1, 1, 1, 0, 0, 0]);
-    let p7 = pack(&[PGN], &[21], &[1; 21], 64).unwrap();
+    assert_eq!(packed(&[1; 5]), [0x40, 0xFE, 0xCA, 5, 1, 1, 1, 1, 1, 0, 0, 0]);
+    let p7 = packed(&[1; 21]);
     assert_eq!((p7.len(), &p7[25..]), (32, &[0, 0, 0, 0xAA, 0xAA, 0xAA, 0xAA][..]));
 }
 
