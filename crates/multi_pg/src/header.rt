@@ -6,7 +6,6 @@ ghost use Rattle.multi_pg.specs.Header.{pgnOf, headed};
 use super::Group;
 use super::Step;
 use frame::octet::wide;
-use frame::pgn::is_pgn;
 use frame::refusal::Refusal;
 
 // What a header's first byte says.
@@ -69,18 +68,19 @@ pub fn pgn_of(first: u8, second: u8, third: u8) -> u32
 }
 
 // A whole header whose first byte begins a group with so many bytes of trailer: 8, 5 or the group. The length byte says payload, which
-// fits into the frame from start on or does not.
+// fits into the frame from start on or does not. The PGN's form is judged by its bytes: with PF below 240 the low byte is 0.
 pub fn headed_by(
     first: u8,
-    pgn: u32,
+    second: u8,
+    third: u8,
     payload: usize,
     trailer: usize,
     start: usize,
     fits: bool,
 ) -> Step
-    ensures { λ r. ⌜ r ≡ headed first pgn payload trailer start fits ⌝ }
+    ensures { λ r. ⌜ r ≡ headed first second third payload trailer start fits ⌝ }
 {
-    if !is_pgn(pgn) {
+    if (second < 240) & (third != 0) {
         return Step::Fault(Refusal::PgnForm);
     }
     if payload < trailer {
@@ -89,6 +89,7 @@ pub fn headed_by(
     if !fits {
         return Step::Fault(Refusal::DataCut);
     }
+    let pgn = pgn_of(first, second, third);
     Step::At(Group {
         pgn: pgn,
         service: first / 32,
