@@ -22,7 +22,6 @@ use Rattle.multi_pg.specs.Faults.{OfFault, step-fault}
 use Rattle.multi_pg.specs.declared.Group.{Group}
 use Rattle.multi_pg.specs.declared.Step.{Step}
 use Rattle.multi_pg.specs.declared.Step.the-variants as step
-use Rattle.frame.specs.Pgn.{lowByteOk}
 use Rattle.frame.specs.Refusals.{numberOf}
 use Rattle.answer.specs.Answers.{answerNumber, answerSends}
 use Rattle.transport.specs.declared.Key.{Key}

@@ -4,7 +4,6 @@ use mathlib.Core.Path.{_≡_, refl}
 use mathlib.Core.List.{List, [], _∷_}
 use Rattle.frame.specs.Refusals.{numberOf}
 use Rattle.multi_pg.specs.Groups.{GroupsRead, good, bad, readFrom, groupsRead, Content, contents, plain}
-use Rattle.multi_pg.specs.Services.{serviceOf}
 
 -- what a frame shows: its groups, without their places, or the number of its refusal
 pub data Shown : Type 0 where

@@ -15,7 +15,6 @@ use Rattle.frame.specs.declared.refusal.Refusal.the-variants.{ServiceType, Trai
 use Rattle.multi_pg.specs.declared.header.Service.{Service}
 use Rattle.multi_pg.specs.declared.header.Service.the-variants as service
 use Rattle.multi_pg.specs.Services.{trailerOf, isService, onFormat, serviceOf, isGroup, hasTrailer}
-use Rattle.packing.specs.declared.Packed.{Packed}
 use Rattle.packing.specs.declared.Packed.the-variants.{Frame, Refused}
 use Rattle.packing.specs.Packing.{Request, asked, body, padding, needed, servicesOk, formatsOk, pgnsOk, trailersOk, requestFits, fitted, firstFault, outcome, packed}
 use Rattle.packing.specs.Shapes.{Met, request-met, padded}

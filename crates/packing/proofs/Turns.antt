@@ -4,7 +4,7 @@ use native.Mathlib.Omega.{arith}
 use mathlib.Core.Path.{_≡_, refl, sym, ap, subst, _∙_}
 use mathlib.Core.List.{List, [], _∷_, _++_, append-assoc, append-nil}
 use lib.ListN.{length, getD, take, drop, length-append, length-drop}
-use lib.Seq.{paste, length-take-le, take-all, drop-drop}
+use lib.Seq.{paste, length-take-le, drop-drop}
 use Rattle.laws.specs.Turn.{turn, end}
 use Rattle.laws.specs.Pastes.{paste-next}
 use Rattle.multi_pg.specs.Groups.{Content}

@@ -6,7 +6,7 @@ use native.Mathlib.Nat.{add-zero}
 use mathlib.Core.Path.{_≡_, refl, sym, ap, subst, _∙_}
 use mathlib.Core.Bool.{Bool, true, false, cond}
 use mathlib.Core.List.{List, [], _∷_, _++_, map, append-assoc}
-use lib.Dec.{eqb, leb, ltb}
+use lib.Dec.{leb, ltb}
 use lib.ListN.{length, getD, take, drop, length-append, take-append-drop}
 use lib.Seq.{getD-append-add, drop-append-add, drop-drop, length-take-le, take-at, take-all, drop-at}
 use borrow.Author.Tests.{ltb-true}
@@ -21,7 +21,7 @@ use Rattle.multi_pg.specs.declared.Step.the-variants as step
 use Rattle.multi_pg.specs.declared.header.Service.the-variants as service
 use Rattle.multi_pg.specs.Services.{serviceOf, hasTrailer}
 use Rattle.multi_pg.specs.ServiceLaws.{group-known, has-trailer}
-use Rattle.multi_pg.specs.Groups.{tos, tf, pgnAt, payload, groupAt, trailerStart, endOf, headedAt, onService, stepAt, Content, contentOf, contents}
+use Rattle.multi_pg.specs.Groups.{tos, tf, pgnAt, payload, groupAt, endOf, headedAt, onService, stepAt, Content, contentOf, contents}
 use Rattle.multi_pg.specs.Places.{Here, here-end}
 use Rattle.multi_pg.specs.Reader.{Chain, last, link, chain-good}
 use Rattle.multi_pg.specs.Table.{groups, shownBy, shown}

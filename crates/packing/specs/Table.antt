@@ -7,7 +7,6 @@ use lib.ListN.{length, drop, replicate}
 use borrow.Author.Tests.{ne-eqb}
 use Rattle.frame.specs.Lengths.{frameLength}
 use Rattle.frame.specs.declared.refusal.Refusal.the-variants.{ServiceType, TrailerFormat, PgnForm, PackRequest}
-use Rattle.multi_pg.specs.Services.{serviceOf}
 use Rattle.packing.specs.declared.Packed.the-variants.{Frame, Refused}
 use Rattle.packing.specs.Packing.{Request, askedBy, body, requestFits, packed}
 

@@ -2,16 +2,15 @@
 use Prim.Native.Nat.{ℕ, _+_, _-_, _/_, _≤_, _<_}
 use native.Mathlib.Omega.{arith}
 use mathlib.Core.Path.{_≡_, refl, sym, ap, _∙_}
-use mathlib.Core.Bool.{Bool, true, false, cond, false≢true}
+use mathlib.Core.Bool.{Bool, true, false, cond}
 use mathlib.Core.List.{List, [], _∷_}
 use lib.Dec.{eqb, leb, ltb}
 use lib.ListN.{length, getD}
-use borrow.Author.Tests.{ltb-true, eqb-true, eq-eqb}
+use borrow.Author.Tests.{ltb-true, eqb-true}
 use Rattle.laws.specs.Choice.{then, else}
 use Rattle.multi_pg.specs.declared.Group.{Group}
-use Rattle.multi_pg.specs.declared.Step.{Step}
 use Rattle.multi_pg.specs.declared.Step.the-variants as step
-use Rattle.multi_pg.specs.Groups.{tos, tf, payload, groupAt, endOf, headedAt, onService, stepAt, good, after, groupsRead}
+use Rattle.multi_pg.specs.Groups.{tf, payload, endOf, headedAt, onService, stepAt, good, after, groupsRead}
 use Rattle.multi_pg.specs.Services.{serviceOf}
 use Rattle.multi_pg.specs.Places.{here-end, step-here, read-all, read-group, read-end}
 

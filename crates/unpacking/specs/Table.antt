@@ -3,7 +3,6 @@ use mathlib.Core.Path.{_≡_, refl}
 use mathlib.Core.List.{[], _∷_}
 use lib.ListN.{replicate}
 use Rattle.frame.specs.declared.refusal.Refusal.the-variants.{PgnForm}
-use Rattle.multi_pg.specs.Services.{serviceOf}
 use Rattle.multi_pg.specs.Groups.{readFrom, groupsRead}
 use Rattle.unpacking.specs.declared.Unpacked.the-variants.{Groups, Refused}
 use Rattle.unpacking.specs.Unpacking.{unpacked}

@@ -1,4 +1,4 @@
-use mathlib.Core.Path.{refl, sym, ap, _∙_}
+use mathlib.Core.Path.{sym, ap, _∙_}
 use native.Mathlib.Omega.{arith}
 use Rattle.multi_pg.specs.declared.Next.the-variants as next
 use Rattle.multi_pg.specs.Groups.{onNext}

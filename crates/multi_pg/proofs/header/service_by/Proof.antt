@@ -1,5 +1,5 @@
 use Prim.Native.Nat.{ℕ, _/_, _%_, _+_, _*_}
-use mathlib.Core.Path.{_≡_, sym, ap, _∙_}
+use mathlib.Core.Path.{_≡_, ap, _∙_}
 use native.Mathlib.Omega.{arith}
 use Rattle.multi_pg.specs.Services.{serviceOf}
 use Rattle.multi_pg.specs.ServiceLaws.{past-services, ninth-format}

@@ -3,7 +3,6 @@ use lib.Dec.{ltb}
 use borrow.Author.Tests.{ltb-false}
 use Rattle.laws.specs.Bools.{neither-left, neither-right}
 use Rattle.multi_pg.proofs.Services.{plain, padding, four, twelve, eight, reserved, other}
-use borrow.Author.Needs.{needs}
 use Rattle.multi_pg.proofs.header.service_of.Statement.{statement}
 use Rattle.multi_pg.proofs.header.service_of.Tie as tie
 
