@@ -6,8 +6,8 @@ use mathlib.Core.Path.{_≡_, refl, sym, ap, _∙_}
 use mathlib.Core.Logic.{_⊎_, inl, inr}
 use mathlib.Core.Bool.{true, _||_}
 use mathlib.Core.Option.{none}
-use lib.Dec.{ltb}
-use borrow.Author.Tests.{ltb-true}
+use lib.Dec.{eqb, ltb}
+use borrow.Author.Tests.{eqb-true, ltb-true}
 use Rattle.laws.specs.Bools.{or-either}
 use Rattle.frame.specs.declared.refusal.Refusal.the-variants.{ServiceType, TrailerFormat}
 use Rattle.multi_pg.specs.declared.header.Service.{Service}
@@ -50,8 +50,8 @@ module _ (first : ℕ) where
       go (yes k) = at 1 1 (omega arith) (omega arith)
       go (no k) = at 1 2 (omega arith) (omega arith)
 
-  pub twelve : first / 4 ≡ 12 → service.Refused TrailerFormat ≡ said
-  twelve h = at 1 4 (omega arith) (omega arith)
+  pub zeroth : 8 ≤ first / 4 → first / 4 < 9 → service.Refused TrailerFormat ≡ said
+  zeroth l h = at 1 0 (omega arith) (omega arith)
 
   pub eight : 11 ≤ first / 4 → first / 4 ≤ 14 → (first / 4 ≡ 12 → ⊥) → service.Group 8 ≡ said
   eight l m n = go (ℕ-discrete (first / 4) 11) (ℕ-discrete (first / 4) 13)
@@ -61,14 +61,14 @@ module _ (first : ℕ) where
       go (no j) (yes k) = at 1 5 (omega arith) (omega arith)
       go (no j) (no k) = at 1 6 (omega arith) (omega arith)
 
-  -- the ends of service type 1's row, and service type 2 with a trailer
-  pub reserved : (first / 4 ≡ 16 → ⊥) → (ltb (first / 4) 9 || ltb 14 (first / 4)) ≡ true → 8 ≤ first / 4 → first / 4 < 24 → service.Refused TrailerFormat ≡ said
-  reserved p x low high = go (ℕ-discrete (first / 4) 8) (ℕ-discrete (first / 4) 15) (or-either (ltb (first / 4) 9) (ltb 14 (first / 4)) x)
+  -- formats 4 and 7 of service type 1, and service type 2 with a trailer
+  pub reserved : (first / 4 ≡ 16 → ⊥) → (eqb (first / 4) 12 || ltb 14 (first / 4)) ≡ true → first / 4 ≤ 23 → service.Refused TrailerFormat ≡ said
+  reserved p x high = go (ℕ-discrete (first / 4) 12) (ℕ-discrete (first / 4) 15) (or-either (eqb (first / 4) 12) (ltb 14 (first / 4)) x)
     where
-      go : Dec (first / 4 ≡ 8) → Dec (first / 4 ≡ 15) → (ltb (first / 4) 9 ≡ true) ⊎ (ltb 14 (first / 4) ≡ true) → service.Refused TrailerFormat ≡ said
-      go (yes k) d e = at 1 0 (omega arith) (omega arith)
+      go : Dec (first / 4 ≡ 12) → Dec (first / 4 ≡ 15) → (eqb (first / 4) 12 ≡ true) ⊎ (ltb 14 (first / 4) ≡ true) → service.Refused TrailerFormat ≡ said
+      go (yes k) d e = at 1 4 (omega arith) (omega arith)
       go (no j) (yes k) e = at 1 7 (omega arith) (omega arith)
-      go (no j) (no k) (inl e) = let h : first / 4 < 9 = ltb-true (first / 4) 9 e in absurd (omega arith)
+      go (no j) (no k) (inl e) = absurd (j (eqb-true (first / 4) 12 e))
       go (no j) (no k) (inr e) =
           let h : 14 < first / 4 = ltb-true 14 (first / 4) e in
           sym (ap onFormat (reserved-2 (first / 4 % 8) (λ z. p (omega (arith, z, h, high, k))) (omega arith))) ∙ at 2 (first / 4 % 8) (omega arith) refl

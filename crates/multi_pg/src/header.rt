@@ -6,6 +6,7 @@ ghost use Rattle.multi_pg.specs.Header.{pgnOf, headed};
 use super::Group;
 use super::Step;
 use frame::octet::wide;
+use frame::pgn::is_pgn;
 use frame::refusal::Refusal;
 
 // What a header's first byte says.
@@ -26,19 +27,19 @@ pub fn service_of(first: u8) -> Service
     if bits == 16 {
         return Service::Group(0);
     }
-    if (bits < 9) | (14 < bits) {
-        if bits < 8 {
-            return Service::Padding;
-        }
-        if bits < 24 {
+    if bits < 11 {
+        if bits < 9 {
+            if bits < 8 {
+                return Service::Padding;
+            }
             return Service::Refused(Refusal::TrailerFormat);
         }
-        return Service::Refused(Refusal::ServiceType);
-    }
-    if bits < 11 {
         return Service::Group(4);
     }
-    if bits == 12 {
+    if (bits == 12) | (14 < bits) {
+        if 23 < bits {
+            return Service::Refused(Refusal::ServiceType);
+        }
         return Service::Refused(Refusal::TrailerFormat);
     }
     Service::Group(8)
@@ -68,19 +69,18 @@ pub fn pgn_of(first: u8, second: u8, third: u8) -> u32
 }
 
 // A whole header whose first byte begins a group with so many bytes of trailer: 8, 5 or the group. The length byte says payload, which
-// fits into the frame from start on or does not. The PGN's form is judged by its bytes: with PF below 240 the low byte is 0.
+// fits into the frame from start on or does not.
 pub fn headed_by(
     first: u8,
-    second: u8,
-    third: u8,
+    pgn: u32,
     payload: usize,
     trailer: usize,
     start: usize,
     fits: bool,
 ) -> Step
-    ensures { λ r. ⌜ r ≡ headed first second third payload trailer start fits ⌝ }
+    ensures { λ r. ⌜ r ≡ headed first pgn payload trailer start fits ⌝ }
 {
-    if (second < 240) & (third != 0) {
+    if !is_pgn(pgn) {
         return Step::Fault(Refusal::PgnForm);
     }
     if payload < trailer {
@@ -89,7 +89,6 @@ pub fn headed_by(
     if !fits {
         return Step::Fault(Refusal::DataCut);
     }
-    let pgn = pgn_of(first, second, third);
     Step::At(Group {
         pgn: pgn,
         service: first / 32,

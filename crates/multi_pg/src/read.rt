@@ -6,6 +6,7 @@ use super::Step;
 use super::end_of;
 use super::header::Service;
 use super::header::headed_by;
+use super::header::pgn_of;
 use super::header::service_of;
 use frame::refusal::Refusal;
 
@@ -29,11 +30,11 @@ pub fn step(frame: &[u8], at: usize) -> Step
             if frame.len() < start {
                 return Step::Fault(Refusal::HeaderCut);
             }
+            let pgn = pgn_of(first, frame[at + 1], frame[at + 2]);
             let payload = frame[at + 3] as usize;
             headed_by(
                 first,
-                frame[at + 1],
-                frame[at + 2],
+                pgn,
                 payload,
                 trailer,
                 start,

@@ -1,12 +1,12 @@
-use Prim.Native.Nat.{ℕ, _+_, _-_, _/_, _%_, _<_, _≤_}
-use native.Mathlib.Decide.{decLe, decLt, ℕ-discrete}
+use Prim.Native.Nat.{ℕ, _+_, _-_, _<_, _≤_}
+use native.Mathlib.Decide.{decLe}
 use mathlib.Core.Path.{_≡_, refl, sym, ap, _∙_}
-use mathlib.Core.Bool.{Bool, true, false, cond, not, _&&_}
+use mathlib.Core.Bool.{Bool, true, false, cond, not}
 use mathlib.Core.List.{List}
-use lib.Dec.{eqb, leb, ltb}
+use lib.Dec.{leb, ltb}
 use lib.ListN.{length, getD}
 use native.Mathlib.Omega.{arith}
-use borrow.Author.Tests.{eq-eqb, ne-eqb, le-leb, lt-leb, lt-ltb, le-ltb}
+use borrow.Author.Tests.{le-leb, lt-leb, lt-ltb, le-ltb}
 use Rattle.laws.specs.Choice.{then, else}
 use Rattle.frame.specs.Pgn.{pgnOk}
 use Rattle.frame.specs.declared.refusal.Refusal.{Refusal}
@@ -41,36 +41,24 @@ module _ (d : List ℕ) (at : ℕ) (inside : at < length d) (s : Service) (e : s
   refused : (r : Refusal) → s ≡ service.Refused r → (x : Refusal) → x ≡ cond (ltb (length d - at) 4) HeaderCut r → step.Fault x ≡ stepAt d at
   refused r q x h = by (step.Fault x) (ap step.Fault h ∙ ap (λ (s : Service). onService s (ltb (length d - at) 4) (headedAt d at)) (sym q))
 
-  group : (n : ℕ) → s ≡ service.Group n → (x : Step) → x ≡ cond (ltb (length d - at) 4) (step.Fault HeaderCut) (headedAt d at n) → x ≡ stepAt d at
-  group n q x h = by x (h ∙ ap (λ (s : Service). onService s (ltb (length d - at) 4) (headedAt d at)) (sym q))
+  module _ (n : ℕ) (q : s ≡ service.Group n) where
+    group : (x : Step) → x ≡ cond (ltb (length d - at) 4) (step.Fault HeaderCut) (headedAt d at n) → x ≡ stepAt d at
+    group x h = by x (h ∙ ap (λ (s : Service). onService s (ltb (length d - at) 4) (headedAt d at)) (sym q))
 
--- the tests of the bytes are those of the definition
-module _ (d : List ℕ) (at : ℕ) where
-  fits-same : at + 4 ≤ length d → not (leb (at + 4 + payload d at) (length d)) ≡ ltb (length d - at - 4) (payload d at)
-  fits-same h = go (decLe (at + 4 + payload d at) (length d))
-    where
-      go : Dec (at + 4 + payload d at ≤ length d) → not (leb (at + 4 + payload d at) (length d)) ≡ ltb (length d - at - 4) (payload d at)
-      go (yes k) = ap not (le-leb (at + 4 + payload d at) (length d) k) ∙ sym (le-ltb (length d - at - 4) (payload d at) (omega arith))
-      go (no k) = ap not (lt-leb (at + 4 + payload d at) (length d) (omega arith)) ∙ sym (lt-ltb (length d - at - 4) (payload d at) (omega arith))
+    fits-same : at + 4 ≤ length d → not (leb (at + 4 + payload d at) (length d)) ≡ ltb (length d - at - 4) (payload d at)
+    fits-same h = go (decLe (at + 4 + payload d at) (length d))
+      where
+        go : Dec (at + 4 + payload d at ≤ length d) → not (leb (at + 4 + payload d at) (length d)) ≡ ltb (length d - at - 4) (payload d at)
+        go (yes k) = ap not (le-leb (at + 4 + payload d at) (length d) k) ∙ sym (le-ltb (length d - at - 4) (payload d at) (omega arith))
+        go (no k) = ap not (lt-leb (at + 4 + payload d at) (length d) (omega arith)) ∙ sym (lt-ltb (length d - at - 4) (payload d at) (omega arith))
 
-  form-same : getD d (at + 1) 0 < 256 → getD d (at + 2) 0 < 256 → (ltb (getD d (at + 1) 0) 240 && not (eqb (getD d (at + 2) 0) 0)) ≡ not (pgnOk (pgnAt d at))
-  form-same b c =
-      let w : ltb (pgnAt d at) 262144 ≡ true = lt-ltb (pgnAt d at) 262144 (omega arith) in
-      let p : pgnAt d at / 256 % 256 ≡ getD d (at + 1) 0 = omega arith in
-      let q : pgnAt d at % 256 ≡ getD d (at + 2) 0 = omega arith in
-      go (decLt (getD d (at + 1) 0) 240) (ℕ-discrete (getD d (at + 2) 0) 0) w p q
-    where
-      go : Dec (getD d (at + 1) 0 < 240) → Dec (getD d (at + 2) 0 ≡ 0) → ltb (pgnAt d at) 262144 ≡ true → pgnAt d at / 256 % 256 ≡ getD d (at + 1) 0 → pgnAt d at % 256 ≡ getD d (at + 2) 0
-          → (ltb (getD d (at + 1) 0) 240 && not (eqb (getD d (at + 2) 0) 0)) ≡ not (pgnOk (pgnAt d at))
-      go (no k) z w p q = rw (w, p, q, le-ltb (getD d (at + 1) 0) 240 (omega arith), le-leb 240 (getD d (at + 1) 0) (omega arith))
-      go (yes k) (yes z) w p q = rw (w, p, q, lt-ltb (getD d (at + 1) 0) 240 k, lt-leb 240 (getD d (at + 1) 0) k, eq-eqb (getD d (at + 2) 0) 0 z)
-      go (yes k) (no z) w p q = rw (w, p, q, lt-ltb (getD d (at + 1) 0) 240 k, lt-leb 240 (getD d (at + 1) 0) k, ne-eqb (getD d (at + 2) 0) 0 z)
-
-  headed-same : (n : ℕ) → at + 4 ≤ length d → getD d (at + 1) 0 < 256 → getD d (at + 2) 0 < 256
-      → headed (getD d at 0) (getD d (at + 1) 0) (getD d (at + 2) 0) (payload d at) n (at + 4) (leb (at + 4 + payload d at) (length d)) ≡ headedAt d at n
-  headed-same n h b c =
-      ap (λ (t : Bool). cond t (step.Fault PgnForm) (cond (ltb (payload d at) n) (step.Fault DataCut) (cond (not (leb (at + 4 + payload d at) (length d))) (step.Fault DataCut) (step.At (groupAt d at n))))) (form-same b c)
-      ∙ ap (λ (t : Bool). cond (not (pgnOk (pgnAt d at))) (step.Fault PgnForm) (cond (ltb (payload d at) n) (step.Fault DataCut) (cond t (step.Fault DataCut) (step.At (groupAt d at n))))) (fits-same h)
+    headed-here : (x : Step) (pgn : ℕ) → at + 4 ≤ length d → x ≡ headed (getD d at 0) pgn (payload d at) n (at + 4) (leb (at + 4 + payload d at) (length d)) → pgn ≡ pgnAt d at → x ≡ stepAt d at
+    headed-here x pgn h told read =
+        group x
+        (else (ltb (length d - at) 4) _ _ _ (whole h)
+        (told
+        ∙ ap (λ (p : ℕ). headed (getD d at 0) p (payload d at) n (at + 4) (leb (at + 4 + payload d at) (length d))) read
+        ∙ ap (λ (t : Bool). cond (not (pgnOk (pgnAt d at))) (step.Fault PgnForm) (cond (ltb (payload d at) n) (step.Fault DataCut) (cond t (step.Fault DataCut) (step.At (groupAt d at n))))) (fits-same h)))
 
 returns : tie.Need-returns
 returns c = then _ _ _ _ (le-leb _ _ (c .if1 .taken)) refl
@@ -102,6 +90,21 @@ returns-2 c =
     group (start .args .frame .now) (start .args .at) (at-if1 .if1 .left) (at-service-of .service-of .result) (at-service-of .service-of .ensures) _ (at-trailer .trailer .given .1) _
     (then _ _ _ _ (cut (start .args .frame .now) (start .args .at) (at-if1 .if1 .left) (at-service-of .service-of .result) (at-service-of .service-of .ensures) (c .if3 .taken)) refl)
 
+add-pgn-of : tie.Need-add-pgn-of
+add-pgn-of c = search needs
+
+shared-slice-read-pgn-of : tie.Need-shared-slice-read-pgn-of
+shared-slice-read-pgn-of c = search needs
+
+add-pgn-of-2 : tie.Need-add-pgn-of-2
+add-pgn-of-2 c = search needs
+
+shared-slice-read-pgn-of-2 : tie.Need-shared-slice-read-pgn-of-2
+shared-slice-read-pgn-of-2 c = search needs
+
+pgn-of-requires : tie.Need-pgn-of-requires
+pgn-of-requires c κs = search needs
+
 add-payload : tie.Need-add-payload
 add-payload c = search needs
 
@@ -110,26 +113,13 @@ shared-slice-read-payload c = search needs
 
 cast-payload : tie.Need-cast-payload
 cast-payload c =
-    let start = c .before .before .before .before .before .before .before .before .before in
-    omega (arith, c .shared-slice-known3 .given (start .args .at + 3))
+    let start = c .before .before .before .before .before .before .before .before .before .before .before .before in
+    omega (arith, c .shared-slice-known5 .given (start .args .at + 3))
 
 add-headed-by : tie.Need-add-headed-by
-add-headed-by c = search needs
-
-shared-slice-read-headed-by : tie.Need-shared-slice-read-headed-by
-shared-slice-read-headed-by c = search needs
-
-add-headed-by-2 : tie.Need-add-headed-by-2
-add-headed-by-2 c = search needs
-
-shared-slice-read-headed-by-2 : tie.Need-shared-slice-read-headed-by-2
-shared-slice-read-headed-by-2 c = search needs
-
-add-headed-by-3 : tie.Need-add-headed-by-3
-add-headed-by-3 c =
-    let at-shared-slice-known3 = c .before .before in
-    let start = at-shared-slice-known3 .before .before .before .before .before .before .before .before .before in
-    omega (arith, at-shared-slice-known3 .shared-slice-known3 .given (start .args .at + 3))
+add-headed-by c =
+    let start = c .before .before .before .before .before .before .before .before .before .before .before .before in
+    omega (arith, c .shared-slice-known5 .given (start .args .at + 3))
 
 headed-by-requires : tie.Need-headed-by-requires
 headed-by-requires c κs = search needs
@@ -161,18 +151,13 @@ returns-5 c =
 
 returns-6 : tie.Need-returns-6
 returns-6 c =
-    let at-shared-slice-known5 = c .before in
-    let at-shared-slice-known4 = at-shared-slice-known5 .before in
-    let at-if3 = at-shared-slice-known4 .before .before in
+    let at-pgn-of = c .before .before in
+    let at-if3 = at-pgn-of .before .before .before in
     let at-trailer = at-if3 .before .before in
     let at-service-of = at-trailer .before .before in
     let at-if1 = at-service-of .before .before in
     let start = at-if1 .before .before in
-    let d = start .args .frame .now in
-    let at = start .args .at in
-    group d at (at-if1 .if1 .left) (at-service-of .service-of .result) (at-service-of .service-of .ensures) _ (at-trailer .trailer .given .1) _
-    (else _ _ _ _ (whole d at (at-if1 .if1 .left) (at-service-of .service-of .result) (at-service-of .service-of .ensures) (at-if3 .if3 .left))
-    (c .headed-by .ensures ∙ headed-same d at _ (at-if3 .if3 .left) (omega (arith, at-shared-slice-known4 .shared-slice-known4 .given (at + 1))) (omega (arith, at-shared-slice-known5 .shared-slice-known5 .given (at + 2)))))
+    headed-here (start .args .frame .now) (start .args .at) (at-if1 .if1 .left) (at-service-of .service-of .result) (at-service-of .service-of .ensures) _ (at-trailer .trailer .given .1) _ (at-pgn-of .pgn-of .result) (at-if3 .if3 .left) (c .headed-by .ensures) (at-pgn-of .pgn-of .ensures)
 
 pub step-spec : {M : Type 1} → statement M
 step-spec =
@@ -186,14 +171,15 @@ step-spec =
     enum-known-r
     enum-known-trailer
     returns-2
+    add-pgn-of
+    shared-slice-read-pgn-of
+    add-pgn-of-2
+    shared-slice-read-pgn-of-2
+    pgn-of-requires
     add-payload
     shared-slice-read-payload
     cast-payload
     add-headed-by
-    shared-slice-read-headed-by
-    add-headed-by-2
-    shared-slice-read-headed-by-2
-    add-headed-by-3
     headed-by-requires
     returns-3
     returns-4
