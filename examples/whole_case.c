@@ -1,5 +1,5 @@
 /* 01's whole case over the boundary for C, with the lines that 01 gives for it: a reading, a Multi-PG frame, an RTS that is granted,
-   a segment out of sequence.
+   the second segment before the first.
 
        cc -std=c11 -Iinclude examples/whole_case.c target/staticlib/libdwaebinam.a -o target/whole_case */
 #include "dwaebinam.h"
@@ -25,6 +25,9 @@ static void print_answer(const uint8_t *a)
     switch (a[DWB_AT_CODE]) {
     case DWB_GRANT:
         printf("send cts %d %d %lu %d\n", a[DWB_AT_SA], a[DWB_AT_SESSION], number_at(a + DWB_AT_SEGMENT), a[DWB_AT_COUNT]);
+        break;
+    case DWB_TAKEN:
+        printf("took %d %d %lu\n", a[DWB_AT_SA], a[DWB_AT_SESSION], number_at(a + DWB_AT_SEGMENT));
         break;
     case DWB_ENDED:
         printf("%s %d %d %d\n", a[DWB_AT_SENDS] ? "send abort" : "ended", a[DWB_AT_SA], a[DWB_AT_SESSION], a[DWB_AT_NUMBER]);

@@ -10,12 +10,12 @@
 
 /* The version of this boundary. It goes up with every change of a call, a length, a place or a code below. dwb_version answers the
    archive's: where the two differ, the program was compiled with the header of another archive, and must make no other call. */
-#define DWB_VERSION 4
+#define DWB_VERSION 5
 uint32_t dwb_version(void);
 
 /* The receiver's record is opaque: dwb_open fills it, and no other than these calls should read or write it. It holds no pointer, so it
    may be copied and moved. A record that was changed by someone else is refused with 23 if it is out of bounds. */
-#define DWB_RECORD_BYTES 261
+#define DWB_RECORD_BYTES 373
 
 /* The store: eight slots, one after the other. What it holds at first does not matter. */
 #define DWB_SLOT_BYTES 4096
@@ -41,10 +41,11 @@ enum {
     DWB_AT_KIND = 5,        /* DWB_RTS or DWB_BAM */
     DWB_AT_COUNT = 6,       /* of DWB_GRANT: the segments granted */
     DWB_AT_SLOT = 6,        /* of DWB_HANDED_OVER: the slot that has the message */
+    DWB_AT_SPENT = 6,       /* of DWB_ENDED: 1 where 21 is for segments missing after the last request, else 0 */
     DWB_AT_LENGTH = 6,      /* of a frame that is in the frame buffer: how many bytes of it are the frame's */
     DWB_AT_PGN = 7,
     DWB_AT_TOTAL = 11,      /* Total Bytes */
-    DWB_AT_SEGMENT = 15,    /* DWB_TAKEN: the segment taken. DWB_GRANT: the next one. DWB_HANDED_OVER: the number of segments */
+    DWB_AT_SEGMENT = 15,    /* DWB_TAKEN: the segment taken. DWB_GRANT: the next one to be sent. DWB_HANDED_OVER: the number of segments */
     DWB_AT_SENDS = 19,      /* 1 if a frame is to be sent now, else 0 and zeros after it */
     DWB_AT_IDENTIFIER = 20,
     DWB_AT_DATA = 24        /* the frame's DWB_DATA_BYTES bytes; zeros where it is in the frame buffer */
@@ -61,13 +62,16 @@ enum { DWB_RTS = 1, DWB_BAM = 2 };
      DWB_TAKEN         a segment was taken                     key, segment; the kind is 0                          nothing
      DWB_GRANT         an RTS has opened a session or, sent    key, kind DWB_RTS, count, PGN, segment               CTS
                        again, started it anew: the next
-                       segment is 1; or a segment was taken
-                       that used up the grant: the one
-                       before the next
+                       segment is 1; or the last segment
+                       granted was taken and others follow:
+                       the next is the one after it; or an
+                       EOMS came with segments missing: the
+                       first of them, and as many in a row
      DWB_HANDED_OVER   an EOMS has ended a session that has    key, kind, slot, PGN, Total Bytes, segment           EOMA for an RTS
                        every segment
      DWB_ABORTED       the originator has ended its session    key; the kind is 0                                   nothing
-     DWB_ENDED         a refusal has ended a session           number (19, 21; 22 at a reading), key, kind, PGN     Abort for an RTS
+     DWB_ENDED         a refusal has ended a session           number (19, 21; 22 at a reading), key, kind,         Abort for an RTS
+                                                               spent, PGN
      DWB_REFUSED_RTS   an RTS was refused; nothing changed     number (8, 11 to 15), key, kind DWB_RTS, PGN         Abort
      DWB_REFUSED       the frame was refused; nothing changed  number                                               nothing */
 enum {
@@ -159,6 +163,11 @@ uint8_t dwb_frame(uint8_t *record, size_t record_bytes, uint32_t id, const uint8
    record as it was and zeros in answers. answers not of DWB_ANSWERS_BYTES are refused with 23, and every buffer stays as it was. */
 uint8_t dwb_reading(uint8_t *record, size_t record_bytes, uint32_t reading, const uint8_t *store, size_t store_bytes,
                     uint8_t *answers, size_t answers_bytes);
+
+/* How many segments of the open session of a key are still missing, 0 to 69. An RTS session takes its segments in any order, and asks at
+   an EOMS for what is missing, five times at most; a BAM's come in sequence. Refused: 256 times the number, 23 for bytes that are no record
+   in bounds, then 16 where no session of the key is open. Nothing is written. */
+size_t dwb_missing(const uint8_t *record, size_t record_bytes, uint8_t sa, uint8_t da, uint8_t session);
 
 /* Copies the message of a DWB_HANDED_OVER answer out of the store: its length, with the bytes of out after it as they were. 0, with
    out as it was, for any other answer, for a place that is not in the store, or where out is too short. */

@@ -1,20 +1,28 @@
 //! Both sides give equal answers: an answer and a record of the plain receiver as include/dwaebinam.h lays them out.
 
 pub mod groups;
+pub mod missing;
 pub mod sending;
 pub mod waits;
 
-use crate::frames::{Frame, LIMITS, OWN};
+use crate::frames::{Frame, Sender, LIMITS, OWN};
 use crate::ours::{Ours, ANSWERS_BYTES, ANSWER_BYTES, RECORD_BYTES, STORE_BYTES};
-use plain::receiver::{Answer, Limits, Receiver, Wait};
+use plain::receiver::{Answer, Limits, Receiver, Taken, Wait};
 use plain::transport::{Key, Sent};
+use plain::Refusal;
+use std::fmt;
 
 /// Places in the record, by docs/WIRE.md, and in one of its slots.
 const FIRST_AT: usize = 1;
 const SECOND_AT: usize = 5;
 const LAST_AT: usize = 9;
-const SLOT_RECORD_BYTES: usize = 31;
+const SLOT_RECORD_BYTES: usize = 45;
+const NEXT_AT: usize = 18;
+const GRANTED_AT: usize = 22;
 const WAIT_AT: usize = 30;
+const TAKEN_AT: usize = 31;
+const MISSING_AT: usize = 40;
+const REQUESTS_AT: usize = 44;
 
 fn slot_at(slot: usize) -> usize {
     13 + SLOT_RECORD_BYTES * slot
@@ -37,6 +45,17 @@ fn wait_code(wait: Wait) -> u8 {
         Wait::First => 1,
         Wait::Second => 2,
     }
+}
+
+/// Which segments are in: bit 0 of the first byte for segment 1.
+fn put_taken(out: &mut [u8], taken: Taken) {
+    let bytes = taken.bits().to_le_bytes();
+    out[TAKEN_AT..MISSING_AT].copy_from_slice(&bytes[..MISSING_AT - TAKEN_AT]);
+}
+
+/// A call's result as C has it.
+fn returned(result: Result<usize, Refusal>) -> usize {
+    result.unwrap_or_else(|refusal| 256 * usize::from(refusal))
 }
 
 fn put_sent(out: &mut [u8; ANSWER_BYTES], sent: &Sent) {
@@ -99,6 +118,7 @@ fn answer_bytes(answer: &Answer) -> [u8; ANSWER_BYTES] {
             refusal,
             key,
             is_bam,
+            is_spent,
             pgn,
             sent,
         } => {
@@ -106,6 +126,7 @@ fn answer_bytes(answer: &Answer) -> [u8; ANSWER_BYTES] {
             out[1] = 7;
             put_key(&mut out, 2, *key);
             out[5] = kind(*is_bam);
+            out[6] = u8::from(*is_spent);
             put(&mut out, 7, *pgn);
             sent.iter().for_each(|sent| put_sent(&mut out, sent));
         }
@@ -125,7 +146,8 @@ fn answer_bytes(answer: &Answer) -> [u8; ANSWER_BYTES] {
     out
 }
 
-/// The plain receiver's record over `ours`: of a free slot only the first byte, since the rest has no meaning.
+/// The plain receiver's record over `ours`: of a free slot only the first byte, and nothing that is the other kind's, since the rest has
+/// no meaning.
 fn record_over<const CHECKED: bool>(
     receiver: &Receiver<CHECKED>,
     ours: &[u8; RECORD_BYTES],
@@ -150,14 +172,26 @@ fn record_over<const CHECKED: bool>(
         put(piece, 9, s.segments);
         piece[13] = s.max;
         put(piece, 14, s.pgn);
-        put(piece, 18, s.next);
-        if !s.is_bam {
-            put(piece, 22, s.granted);
+        if s.is_bam {
+            put(piece, NEXT_AT, s.next);
+        } else {
+            put(piece, GRANTED_AT, s.granted);
+            put_taken(piece, s.taken);
+            put(piece, MISSING_AT, s.missing);
+            piece[REQUESTS_AT] = s.requests;
         }
         put(piece, 26, s.mark);
         piece[WAIT_AT] = wait_code(s.wait);
     }
     out
+}
+
+/// Asks both sides how many segments of a session are not in. What C is told.
+fn ask<const CHECKED: bool>(ours: &Ours, receiver: &Receiver<CHECKED>, (sa, da, number): (u8, u8, u8), what: fmt::Arguments) -> usize {
+    let told = ours.missing(sa, da, number);
+    let result = receiver.missing(sa, da, number).map(|count| count as usize);
+    assert_eq!(told, returned(result), "missing, {what}");
+    told
 }
 
 /// Gives both sides a reading and compares their answers: the number, and how many sessions have ended.
@@ -175,7 +209,8 @@ fn read<const CHECKED: bool>(ours: &mut Ours, receiver: &mut Receiver<CHECKED>, 
     (number, ended)
 }
 
-/// Both sides of a receiver; each call is made on both and compared: number, answer, record, and now and then the store.
+/// Both sides of a receiver; each call is made on both and compared: number, answer, record, how many segments some session misses, and now
+/// and then the store.
 struct Pair<const CHECKED: bool> {
     name: String,
     ours: Ours,
@@ -206,6 +241,9 @@ impl<const CHECKED: bool> Pair<CHECKED> {
         let (calls, name) = (self.calls, &self.name);
         let expected = record_over(&self.plain, &self.ours.record, self.limits, self.last);
         assert_eq!(self.ours.record, expected, "record, call {calls} of {name}");
+        // of the senders in turn, whether their sessions are open or not
+        let key = Sender::nth((calls % 16) as u8).key();
+        ask(&self.ours, &self.plain, key, format_args!("call {calls} of {name}"));
         if calls % 64 == 63 {
             self.agree_on_store();
         }
@@ -217,7 +255,8 @@ impl<const CHECKED: bool> Pair<CHECKED> {
         assert!(self.ours.store == self.store, "store, call {} of {}", self.calls, self.name);
     }
 
-    fn frame(&mut self, frame: &Frame) {
+    /// The answer of both.
+    fn frame(&mut self, frame: &Frame) -> [u8; ANSWER_BYTES] {
         let (calls, name) = (self.calls, &self.name);
         let number = self.ours.frame(frame.id, frame.bytes());
         let answer = self.plain.frame(frame.id, frame.bytes(), &mut self.store);
@@ -228,6 +267,7 @@ impl<const CHECKED: bool> Pair<CHECKED> {
         assert_eq!(number, expected[0], "number, call {calls} of {name}");
         assert_eq!(self.ours.answer, expected, "answer, call {calls} of {name}");
         self.agree(number);
+        expected
     }
 
     fn reading(&mut self, now: u32) {
@@ -242,7 +282,9 @@ impl<const CHECKED: bool> Pair<CHECKED> {
 /// Runs both sides over the frames. How often each number was the answer.
 pub fn compare<const CHECKED: bool>(name: &str, frames: &[Frame]) -> [usize; 256] {
     let mut pair = Pair::<CHECKED>::open(name, LIMITS, 7);
-    frames.iter().for_each(|frame| pair.frame(frame));
+    for frame in frames {
+        pair.frame(frame);
+    }
     pair.agree_on_store();
     pair.seen
 }

@@ -2,6 +2,7 @@
 
 use plain::receiver::{Limits, Session};
 use plain::Refusal;
+use std::ops::RangeInclusive;
 
 pub const OWN: u8 = 33;
 /// The idle limit of a sender.
@@ -199,6 +200,23 @@ impl Sender {
         }
     }
 
+    /// The same with a message of so many segments, the last of them 16 bytes long.
+    pub fn with_segments(self, segments: u32) -> Self {
+        Sender {
+            total: 60 * (segments - 1) + 16,
+            ..self
+        }
+    }
+
+    /// The same with a message of any length, and grants of any size.
+    pub fn with_any_message(self, dice: &mut Dice) -> Self {
+        Sender {
+            total: 1 + dice.roll(TOTAL as usize) as u32,
+            max: [1, 3, 15, 16, 17, 255][dice.roll(6)],
+            ..self
+        }
+    }
+
     fn da(&self) -> u8 {
         if self.is_bam {
             255
@@ -211,9 +229,14 @@ impl Sender {
         7 << 26 | pf << 16 | u32::from(self.da()) << 8 | u32::from(self.sa)
     }
 
+    /// SA, DA and session number.
+    pub fn key(&self) -> (u8, u8, u8) {
+        (self.sa, self.da(), self.number)
+    }
+
     /// Whether a session is this sender's.
     pub fn has(&self, s: &Session) -> bool {
-        (s.key.sa(), s.key.da(), s.key.number()) == (self.sa, self.da(), self.number)
+        (s.key.sa(), s.key.da(), s.key.number()) == self.key()
     }
 
     pub fn segments(&self) -> u32 {
@@ -234,19 +257,24 @@ impl Sender {
         self.control(if self.is_bam { 4 } else { 0 }, self.max)
     }
 
+    /// A segment, or what is none for its number.
     pub fn segment(&self, n: u32) -> Frame {
         let mut dice = Dice(u64::from(self.number) << 32 | u64::from(n));
         let mut bytes = [0; 64];
         bytes[0] = self.number << 4;
         bytes[1..4].copy_from_slice(&n.to_le_bytes()[..3]);
         bytes[4..].fill_with(|| dice.roll(256) as u8);
-        let due = (self.total - 60 * (n - 1)).min(60) as usize;
+        let due = self.total.saturating_sub(60 * n.saturating_sub(1)).min(60);
         let length = [20, 64][usize::from(due > 16)];
         Frame::new(self.id(78), &bytes[..length])
     }
 
     pub fn status(&self) -> Frame {
         self.control(2, 255)
+    }
+
+    pub fn abort(&self) -> Frame {
+        self.control(15, 0)
     }
 }
 
@@ -257,6 +285,39 @@ pub fn transfers(senders: &[Sender]) -> Vec<Frame> {
         frames.extend(senders.iter().map(|s| s.segment(n)));
     }
     frames.extend(senders.iter().map(Sender::status));
+    frames
+}
+
+/// The segments of 69 that get lost, in three runs. None ends a grant of 16: its CTS would not come, and the sender would wait for it.
+const LOST: [RangeInclusive<u32>; 3] = [7..=7, 23..=25, 69..=69];
+
+/// A transfer whose lost segments are asked for again, run by run: each EOMS but the last brings a request.
+pub fn lossy_transfer(s: &Sender) -> Vec<Frame> {
+    let mut frames = vec![s.announcement()];
+    let arrived = (1..=s.segments()).filter(|n| !LOST.iter().any(|run| run.contains(n)));
+    frames.extend(arrived.map(|n| s.segment(n)));
+    for run in LOST {
+        frames.push(s.status());
+        frames.extend(run.map(|n| s.segment(n)));
+    }
+    frames.push(s.status());
+    frames
+}
+
+/// A transfer whose segments come from the last to the first.
+pub fn reversed_transfer(s: &Sender) -> Vec<Frame> {
+    let mut frames = vec![s.announcement()];
+    frames.extend((1..=s.segments()).rev().map(|n| s.segment(n)));
+    frames.push(s.status());
+    frames
+}
+
+/// The start of some transfers: the announcements, and of each sender more segments than of the one before it.
+pub fn begun(senders: &[Sender]) -> Vec<Frame> {
+    let mut frames: Vec<Frame> = senders.iter().map(Sender::announcement).collect();
+    for (i, s) in senders.iter().enumerate() {
+        frames.extend((1..=8 * i as u32).map(|n| s.segment(n)));
+    }
     frames
 }
 
@@ -366,7 +427,7 @@ pub fn noise(count: usize, seed: u64) -> Vec<Frame> {
                     s.announcement()
                 }
                 1 => s.status(),
-                2 => s.control(15, 0),
+                2 => s.abort(),
                 3 => groups[dice.roll(groups.len())],
                 4 => Sending::nth(dice.roll(4) as u8).nth_reply(dice.roll(4)),
                 _ => {

@@ -83,6 +83,42 @@ fn plain_frames<const CHECKED: bool>(open: &[Sender], frames: &[Frame]) -> Side 
     })
 }
 
+/// How many segments are missing, asked of each session of a record in turn.
+fn missing_case(name: &'static str, open: &[Sender]) -> Case {
+    fn plain_questions<const CHECKED: bool>(open: &[Sender], keys: Vec<(u8, u8, u8)>) -> Side {
+        let mut store = vec![0; STORE_BYTES];
+        let mut receiver = Receiver::<CHECKED>::open(OWN, LIMITS, 7);
+        for frame in frames::begun(open) {
+            receiver.frame(frame.id, frame.bytes(), &mut store);
+        }
+        Box::new(move |rounds| {
+            for _ in 0..rounds {
+                for &(sa, da, number) in black_box(&keys[..]) {
+                    consume(black_box(&receiver).missing(sa, da, number).map(|count| count as usize));
+                }
+            }
+        })
+    }
+    let keys: Vec<_> = open.iter().map(Sender::key).collect();
+    let mut ours = Ours::open(OWN, LIMITS, 7);
+    for frame in frames::begun(open) {
+        assert_eq!(ours.frame(frame.id, frame.bytes()), 0);
+    }
+    Case {
+        name,
+        calls: keys.len(),
+        checked: plain_questions::<true>(open, keys.clone()),
+        unchecked: Some(plain_questions::<false>(open, keys.clone())),
+        ours: Box::new(move |rounds| {
+            for _ in 0..rounds {
+                for &(sa, da, number) in black_box(&keys[..]) {
+                    black_box(black_box(&ours).missing(sa, da, number));
+                }
+            }
+        }),
+    }
+}
+
 /// Frames through the frame call alone.
 fn frame_case(name: &'static str, open: &[Sender], frames: &[Frame]) -> Case {
     Case {
@@ -241,7 +277,10 @@ fn cases() -> Vec<Case> {
         cases.push(pack_case(name, frames::requests(groups, trailers)));
     }
     cases.push(frame_case("transfer-rts", &[], &frames::transfers(&eight[..1])));
+    cases.push(frame_case("transfer-rts-lost", &[], &frames::lossy_transfer(&eight[0])));
+    cases.push(frame_case("transfer-rts-reversed", &[], &frames::reversed_transfer(&eight[0])));
     cases.push(frame_case("transfers-8", &[], &frames::transfers(&eight)));
+    cases.push(missing_case("missing-8-open", &eight));
     {
         cases.push(with_groups::stream_case("stream-0-open", &[], &stream));
         cases.push(with_groups::stream_case("stream-4-open", &eight[..4], &stream));
@@ -283,10 +322,38 @@ fn equal_groups() {
     assert!([0, 6, 7, 8, 24].iter().all(|&number| seen[number] > 100));
 }
 
+fn equal_missing(eight: &[Sender]) {
+    use equal::missing::{compare, compare_bounds, compare_questions, compare_transfer};
+    let transfers = [
+        ("in sequence", frames::transfers(&eight[..1]), 0),
+        ("segments lost", frames::lossy_transfer(&eight[0]), 3),
+        ("reversed", frames::reversed_transfer(&eight[0]), 0),
+    ];
+    for (name, frames, requests) in &transfers {
+        compare_transfer::<true>(name, frames, *requests);
+        compare_transfer::<false>(name, frames, *requests);
+    }
+    compare_questions::<true>(eight);
+    compare_questions::<false>(eight);
+    for limits in equal::waits::DRAWN {
+        compare::<true>(100_000, 6, limits);
+        let (met, seen) = compare::<false>(100_000, 6, limits);
+        eprintln!(
+            "any order, limits {} and {}: calls equal; numbers {}; {met}",
+            limits.first,
+            limits.second,
+            counts(&seen)
+        );
+    }
+    compare_bounds();
+}
+
 fn equal() {
     let eight: Vec<Sender> = (0..8).map(Sender::nth).collect();
     let lists = [
         ("one transfer", frames::transfers(&eight[..1])),
+        ("one transfer, segments lost", frames::lossy_transfer(&eight[0])),
+        ("one transfer, reversed", frames::reversed_transfer(&eight[0])),
         ("eight transfers", frames::transfers(&eight)),
         ("stream", frames::stream()),
         ("noise", frames::noise(200_000, 6)),
@@ -309,6 +376,7 @@ fn equal() {
         );
     }
     equal::waits::compare_bounds();
+    equal_missing(&eight);
     equal::sending::compare_send::<true>(&Sending::nth(0));
     equal::sending::compare_send::<false>(&Sending::nth(0));
     for limits in equal::waits::DRAWN {
@@ -362,6 +430,7 @@ fn time(case: Case) {
 }
 
 fn main() {
+    assert_eq!(boundary::version(), boundary::VERSION, "the archive has another version");
     let args: Vec<String> = std::env::args().skip(1).collect();
     match args.iter().map(String::as_str).collect::<Vec<_>>()[..] {
         ["equal"] => equal(),

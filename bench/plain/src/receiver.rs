@@ -1,11 +1,17 @@
 //! The receiver: a typed record behind `&mut self`, eight slots over a lent store.
 
 use crate::transport::{
-    control_frame, is_limit, is_pgn, is_responders, number24, put24, wire_reason, ControlBytes, Key, Sent, SEGMENT_BYTES,
+    control_frame, is_limit, is_pgn, is_responders, number24, put24, segments_of, wire_reason, ControlBytes, Key, Sent, GLOBAL,
+    SEGMENT_BYTES,
 };
 use crate::{is_can_fd_length, Groups, Refusal, SLOTS, SLOT_BYTES};
 
+/// How many segments a CTS is for at most.
 pub const GRANT: u32 = 16;
+/// How often a session may ask for what is missing (02, E6).
+pub const REQUESTS: u8 = 5;
+/// 001, Table 11.
+const REQUESTS_SPENT: u8 = 5;
 
 pub(crate) type Store = [u8; SLOTS * SLOT_BYTES];
 
@@ -34,6 +40,64 @@ impl Limits {
     }
 }
 
+/// Which segments of a message are in (02, E6): a bit for each, that of segment 1 the lowest. There are 69 at most, so five bits of `high`
+/// are used.
+#[derive(Clone, Copy, Default, PartialEq, Eq)]
+pub struct Taken {
+    low: u64,
+    high: u8,
+}
+
+impl Taken {
+    /// The lowest 72 of these bits.
+    pub fn new(bits: u128) -> Self {
+        Taken {
+            low: bits as u64,
+            high: (bits >> u64::BITS) as u8,
+        }
+    }
+
+    pub fn bits(self) -> u128 {
+        u128::from(self.high) << u64::BITS | u128::from(self.low)
+    }
+
+    fn has(self, segment: u32) -> bool {
+        match (segment - 1).checked_sub(u64::BITS) {
+            None => self.low >> (segment - 1) & 1 != 0,
+            Some(bit) => self.high >> bit & 1 != 0,
+        }
+    }
+
+    fn add(&mut self, segment: u32) {
+        match (segment - 1).checked_sub(u64::BITS) {
+            None => self.low |= 1 << (segment - 1),
+            Some(bit) => self.high |= 1 << bit,
+        }
+    }
+
+    fn count(self) -> u32 {
+        self.low.count_ones() + self.high.count_ones()
+    }
+
+    /// Whether nothing is in past so many segments.
+    fn is_within(self, segments: u32) -> bool {
+        match segments.checked_sub(u64::BITS) {
+            None => self.high == 0 && self.low >> segments == 0,
+            Some(bits) => self.high >> bits == 0,
+        }
+    }
+
+    /// The first segment that is not in.
+    fn first_missing(self) -> u32 {
+        self.bits().trailing_ones() + 1
+    }
+
+    /// How many are not in before the next that is, counted from a segment on; nothing is in past the last.
+    fn missing_from(self, segment: u32) -> u32 {
+        (self.bits() >> (segment - 1)).trailing_zeros()
+    }
+}
+
 #[derive(Clone, Copy)]
 pub struct Session {
     pub key: Key,
@@ -42,10 +106,38 @@ pub struct Session {
     pub total: u32,
     pub segments: u32,
     pub pgn: u32,
+    /// Of a BAM, whose segments come in sequence.
     pub next: u32,
+    /// Of an RTS: the last segment that a CTS was for.
     pub granted: u32,
+    /// Of an RTS.
+    pub taken: Taken,
+    /// Of an RTS: how many segments are not in.
+    pub missing: u32,
+    /// Of an RTS: how often it has asked for what is missing.
+    pub requests: u8,
     pub mark: u32,
     pub wait: Wait,
+}
+
+impl Session {
+    /// How many segments are not in yet, of either kind.
+    pub fn missing(&self) -> u32 {
+        if self.is_bam {
+            self.segments + 1 - self.next
+        } else {
+            self.missing
+        }
+    }
+
+    /// The first segment that is not in, of either kind.
+    pub fn first_missing(&self) -> u32 {
+        if self.is_bam {
+            self.next
+        } else {
+            self.taken.first_missing()
+        }
+    }
 }
 
 pub enum Answer<'a> {
@@ -76,6 +168,8 @@ pub enum Answer<'a> {
         refusal: Refusal,
         key: Key,
         is_bam: bool,
+        /// Segments were missing, and all requests were made.
+        is_spent: bool,
         pgn: u32,
         sent: Option<Sent>,
     },
@@ -98,9 +192,9 @@ impl Answer<'_> {
     }
 }
 
-fn cts(own: u8, s: &Session, count: u8) -> Sent {
+fn cts(own: u8, s: &Session, next: u32, count: u8) -> Sent {
     let mut sent = control_frame(s.key.number(), 1, s.pgn, s.key.sa(), own);
-    put24(&mut sent.bytes, 4, s.next);
+    put24(&mut sent.bytes, 4, next);
     sent.bytes[7] = count;
     sent.bytes[8] = 0;
     sent
@@ -113,26 +207,39 @@ fn eoma(own: u8, s: &Session) -> Sent {
     sent
 }
 
-fn abort(own: u8, key: Key, pgn: u32, refusal: Refusal) -> Sent {
+fn abort(own: u8, key: Key, pgn: u32, reason: u8) -> Sent {
     let mut sent = control_frame(key.number(), 15, pgn, key.sa(), own);
     sent.bytes[7] = 0xfd;
-    sent.bytes[8] = wire_reason(refusal);
+    sent.bytes[8] = reason;
     sent
 }
 
-/// The next CTS: from the next segment on, the smallest of MAX SGMTS, 16 and the segments left. The first wait begins with it.
-fn grant<'a>(own: u8, s: &mut Session) -> Answer<'a> {
-    let left = s.segments + 1 - s.next;
-    let count = u32::from(s.max).min(GRANT).min(left);
-    s.granted = s.next + count - 1;
+/// A CTS from a segment on, for `most` or as many as MAX SGMTS and 16 allow. The first wait begins with it.
+fn grant<'a>(own: u8, s: &mut Session, next: u32, most: u32) -> Answer<'a> {
+    let count = most.min(s.max.into()).min(GRANT);
+    s.granted = next + count - 1;
     s.wait = Wait::First;
     Answer::Grant {
         key: s.key,
         pgn: s.pgn,
-        next: s.next,
+        next,
         count: count as u8,
-        sent: cts(own, s, count as u8),
+        sent: cts(own, s, next, count as u8),
     }
+}
+
+/// The next CTS: for the segments after the last one granted, in or not.
+fn grant_next<'a>(own: u8, s: &mut Session) -> Answer<'a> {
+    let (next, left) = (s.granted + 1, s.segments - s.granted);
+    grant(own, s, next, left)
+}
+
+/// Asks for the first run of segments that are missing.
+fn request<'a>(own: u8, s: &mut Session) -> Answer<'a> {
+    s.requests += 1;
+    let next = s.taken.first_missing();
+    let run = s.taken.missing_from(next).min(s.segments + 1 - next);
+    grant(own, s, next, run)
 }
 
 /// `CHECKED` says whether each call checks the whole record, as 01 asks of every receiver (refusal 23), or trusts it.
@@ -162,21 +269,25 @@ impl<const CHECKED: bool> Receiver<CHECKED> {
         &mut self.slots
     }
 
-    /// 01, "State in bounds", of one open slot but for its key being the only one.
+    /// 01, "State in bounds", and 02, E4 and E6, of one open slot but for its key being the only one.
     #[inline(always)]
     fn session_in_bounds(&self, s: &Session) -> bool {
-        let da = if s.is_bam { 255 } else { self.own };
-        let granted = s.next <= s.granted && s.granted <= s.segments || s.next > s.segments && s.granted == s.segments;
         s.total.wrapping_sub(1) < SLOT_BYTES as u32
-            && s.segments == (s.total + 59) / SEGMENT_BYTES
+            && s.segments == segments_of(s.total)
             && is_pgn(s.pgn)
             && s.key.sa() < 254
             && s.key.sa() != self.own
-            && s.key.da() == da
             && s.key.number() < 16
-            && s.next.wrapping_sub(1) <= s.segments
-            && (!s.is_bam || s.wait == Wait::Second)
-            && (s.is_bam || s.max != 0 && granted)
+            && if s.is_bam {
+                s.key.da() == GLOBAL && s.wait == Wait::Second && s.next.wrapping_sub(1) <= s.segments
+            } else {
+                s.key.da() == self.own
+                    && s.max != 0
+                    && s.granted.wrapping_sub(1) < s.segments
+                    && s.requests <= REQUESTS
+                    && s.taken.is_within(s.segments)
+                    && s.missing == s.segments - s.taken.count()
+            }
     }
 
     #[inline(always)]
@@ -202,14 +313,30 @@ impl<const CHECKED: bool> Receiver<CHECKED> {
 
     /// Ends the session in a slot with a refusal: an RTS session is told.
     fn fail<'a>(&mut self, slot: usize, refusal: Refusal) -> Answer<'a> {
+        self.end(slot, refusal, wire_reason(refusal))
+    }
+
+    /// The same, for a reason on the wire.
+    fn end<'a>(&mut self, slot: usize, refusal: Refusal, reason: u8) -> Answer<'a> {
         let s = self.slots[slot].take().expect("an open slot");
         Answer::Ended {
             refusal,
             key: s.key,
             is_bam: s.is_bam,
+            is_spent: reason == REQUESTS_SPENT,
             pgn: s.pgn,
-            sent: (!s.is_bam).then(|| abort(self.own, s.key, s.pgn, refusal)),
+            sent: (!s.is_bam).then(|| abort(self.own, s.key, s.pgn, reason)),
         }
+    }
+
+    /// How many segments of a session are not in yet.
+    #[inline(never)]
+    pub fn missing(&self, sa: u8, da: u8, number: u8) -> Result<u32, Refusal> {
+        if CHECKED && !self.in_bounds() {
+            return Err(23);
+        }
+        let slot = self.find(Key::new(sa, da, number)).ok_or(16)?;
+        Ok(self.slots[slot].as_ref().expect("an open slot").missing())
     }
 
     /// Takes one frame.
@@ -275,15 +402,19 @@ impl<const CHECKED: bool> Receiver<CHECKED> {
         if is_bam != (key.da() == 255) {
             return Answer::Refused(11);
         }
+        let segments = number24(bytes, 4);
         let mut s = Session {
             key,
             is_bam,
             max: bytes[7],
             total: number24(bytes, 1),
-            segments: number24(bytes, 4),
+            segments,
             pgn: number24(bytes, 9),
             next: 1,
             granted: 0,
+            taken: Taken::default(),
+            missing: segments,
+            requests: 0,
             mark: self.last,
             wait: Wait::Second,
         };
@@ -293,10 +424,14 @@ impl<const CHECKED: bool> Receiver<CHECKED> {
                 refusal,
                 key,
                 pgn: s.pgn,
-                sent: abort(self.own, key, s.pgn, refusal),
+                sent: abort(self.own, key, s.pgn, wire_reason(refusal)),
             },
             Ok(slot) => {
-                let answer = if is_bam { Answer::Opened(key) } else { grant(self.own, &mut s) };
+                let answer = if is_bam {
+                    Answer::Opened(key)
+                } else {
+                    grant_next(self.own, &mut s)
+                };
                 self.slots[slot] = Some(s);
                 answer
             }
@@ -334,11 +469,11 @@ impl<const CHECKED: bool> Receiver<CHECKED> {
         };
         let segment = u32::from_le_bytes(head) >> 8;
         let s = self.slots[slot].as_mut().expect("an open slot");
-        if segment < s.next {
-            return Answer::Refused(18);
-        }
-        if segment > s.next || segment > s.segments {
-            return self.fail(slot, 19);
+        let is_in_message = segment.wrapping_sub(1) < s.segments;
+        let is_due = is_in_message && if s.is_bam { segment == s.next } else { !s.taken.has(segment) };
+        if !is_due {
+            let is_in = segment == 0 || if s.is_bam { segment < s.next } else { is_in_message };
+            return if is_in { Answer::Refused(18) } else { self.fail(slot, 19) };
         }
         let place = (SEGMENT_BYTES * (segment - 1)) as usize;
         let due = (s.total as usize - place).min(SEGMENT_BYTES as usize);
@@ -347,10 +482,15 @@ impl<const CHECKED: bool> Receiver<CHECKED> {
         }
         let start = slot * SLOT_BYTES + place;
         store[start..start + due].copy_from_slice(&data[..due]);
-        s.next += 1;
         s.mark = self.last;
-        if !s.is_bam && segment == s.granted && segment < s.segments {
-            return grant(self.own, s);
+        if s.is_bam {
+            s.next += 1;
+        } else {
+            s.taken.add(segment);
+            s.missing -= 1;
+            if segment == s.granted && segment < s.segments && s.requests == 0 {
+                return grant_next(self.own, s);
+            }
         }
         s.wait = Wait::Second;
         Answer::Taken { key: s.key, segment }
@@ -360,14 +500,21 @@ impl<const CHECKED: bool> Receiver<CHECKED> {
         let Some(slot) = self.find(key) else {
             return Answer::Refused(16);
         };
-        let s = self.slots[slot].as_ref().expect("an open slot");
-        let is_whole = s.next > s.segments
-            && number24(bytes, 1) == s.total
-            && number24(bytes, 4) == s.segments
-            && bytes[8] == 0
-            && number24(bytes, 9) == s.pgn;
-        if !is_whole {
+        let s = self.slots[slot].as_mut().expect("an open slot");
+        let is_as_announced =
+            number24(bytes, 1) == s.total && number24(bytes, 4) == s.segments && bytes[8] == 0 && number24(bytes, 9) == s.pgn;
+        if !is_as_announced {
             return self.fail(slot, 21);
+        }
+        if s.missing() > 0 {
+            if s.is_bam {
+                return self.fail(slot, 21);
+            }
+            if s.requests == REQUESTS {
+                return self.end(slot, 21, REQUESTS_SPENT);
+            }
+            s.mark = self.last;
+            return request(self.own, s);
         }
         let start = slot * SLOT_BYTES;
         let answer = Answer::HandedOver {

@@ -1,8 +1,9 @@
--- An answer as bytes of a fixed layout: number, code, key, kind, count or slot, PGN, Total Bytes, segment; then the frame that is due.
+-- An answer as bytes of a fixed layout: number, code, key, kind, one byte by the code, PGN, Total Bytes, segment; then the frame that is due.
 use Prim.Native.Nat.{ℕ, _%_}
 use mathlib.Core.List.{List, [], _∷_, _++_}
 use lib.ListN.{replicate}
-use Rattle.frame.specs.Refusals.{numberOf}
+use Rattle.frame.specs.declared.refusal.Refusal.{Refusal}
+use Rattle.frame.specs.Refusals.{numberOf, spentOf}
 use Rattle.transport.specs.declared.Key.{Key}
 use Rattle.transport.specs.declared.cts.Cts.{Cts}
 use Rattle.transport.specs.declared.response.Response.{Response}
@@ -43,14 +44,23 @@ abbrev pub messageFields : Message → Fields
 messageFields m =
     record { number = 0; code = 5; key = m .key; kind = kindByte (m .kind); extra = m .slot % 256; pgn = m .pgn; total = m .total .0; segment = m .segments .0 }
 
+-- of a refusal that byte tells the two of number 21 apart (02, E6)
+
 -- under the code of the end that answers
-abbrev pub endedFields : ℕ → Ending → Fields
-endedFields code e =
-    record { number = numberOf (e .refusal); code = code; key = e .key; kind = kindByte (e .kind); extra = 0; pgn = e .pgn; total = 0; segment = 0 }
+abbrev pub endedFields : ℕ → ℕ → Ending → Fields
+endedFields code extra e =
+    record { number = numberOf (e .refusal); code = code; key = e .key; kind = kindByte (e .kind); extra = extra; pgn = e .pgn; total = 0; segment = 0 }
+
+abbrev pub sessionEnded : Ending → Fields
+sessionEnded e = endedFields 7 (spentOf (e .refusal)) e
 
 abbrev pub rejectionFields : Rejection → Fields
 rejectionFields j =
-    record { number = numberOf (j .refusal); code = 8; key = j .key; kind = 1; extra = 0; pgn = j .pgn; total = 0; segment = 0 }
+    record { number = numberOf (j .refusal); code = 8; key = j .key; kind = 1; extra = spentOf (j .refusal); pgn = j .pgn; total = 0; segment = 0 }
+
+abbrev pub refusedFields : Refusal → Fields
+refusedFields n =
+    record { number = numberOf n; code = 9; key = noKey; kind = 0; extra = spentOf n; pgn = 0; total = 0; segment = 0 }
 
 abbrev pub fieldsOf : Answer → Fields
 fieldsOf (Groups route) = keyed 1 0 noKey
@@ -59,9 +69,9 @@ fieldsOf (Taken t) = takenFields t
 fieldsOf (Grant c) = grantFields c
 fieldsOf (HandedOver m) = messageFields m
 fieldsOf (Aborted k) = keyed 6 0 k
-fieldsOf (Ended e) = endedFields 7 e
+fieldsOf (Ended e) = sessionEnded e
 fieldsOf (RefusedRts j) = rejectionFields j
-fieldsOf (Refused n) = keyed 9 (numberOf n) noKey
+fieldsOf (Refused n) = refusedFields n
 
 unfoldable pub fieldsBytes : Fields → List ℕ
 fieldsBytes f =

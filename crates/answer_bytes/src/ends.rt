@@ -5,10 +5,10 @@ ghost use lib.ListN.{length};
 ghost use lib.Seq.{paste};
 ghost use Rattle.answer_bytes.specs.Ends.{endBytes, endsBytes};
 ghost use Rattle.answer_bytes.specs.Places.{answerLength, answersLength};
-use super::ended_fields;
 use super::places::ANSWER_BYTES;
 use super::put_fields;
 use super::put_sending;
+use super::session_ended;
 use answer::End;
 use answer::SlotEnd;
 use answer::sent::response_of_end;
@@ -27,7 +27,7 @@ fn put_end(s: SlotEnd, out: &mut [u8], at: usize)
             copy(out, at, &none, 0, ANSWER_BYTES);
         }
         End::Ended(e) => {
-            put_fields(ended_fields(7, e), out, at);
+            put_fields(session_ended(e), out, at);
             put_sending(response_of_end(End::Ended(e)), out, at);
         }
     }

@@ -6,7 +6,7 @@ ghost use mathlib.Core.List.{_∷_};
 ghost use lib.ListN.{length};
 ghost use lib.Seq.{paste};
 ghost use Rattle.words.specs.Words.{low4};
-ghost use Rattle.answer_bytes.specs.Answers.{noKey, keyed, takenFields, grantFields, messageFields, endedFields, rejectionFields, fieldsOf, fieldsBytes, responseSent, sentBytes, answerBytes};
+ghost use Rattle.answer_bytes.specs.Answers.{noKey, keyed, takenFields, grantFields, messageFields, endedFields, sessionEnded, rejectionFields, refusedFields, fieldsOf, fieldsBytes, responseSent, sentBytes, answerBytes};
 ghost use Rattle.answer_bytes.specs.Places.{answerLength, sentPlace, sentLength};
 
 pub mod ends;
@@ -22,6 +22,7 @@ use answer::sent::response_of;
 use frame::Address;
 use frame::SessionNumber;
 use frame::refusal;
+use frame::refusal::Refusal;
 use octets::copy;
 use places::DATA_AT;
 use places::DATA_BYTES;
@@ -44,7 +45,7 @@ pub struct Fields {
     pub code: u8,
     pub key: Key,
     pub kind: u8,
-    // the count of a grant, or the slot of a message
+    // the count of a grant, the slot of a message, or which refusal of number 21 it is
     pub extra: u8,
     pub pgn: u32,
     pub total: u32,
@@ -132,9 +133,9 @@ fn message_fields(m: Message) -> Fields
     }
 }
 
-// A session or a transfer that a refusal has ended, under the code of the end that answers.
-pub fn ended_fields(code: u8, e: Ending) -> Fields
-    ensures { λ r. ⌜ r ≡ endedFields code e ⌝ }
+// A session or a transfer that a refusal has ended, under the code of the end that answers; extra is 0 for a transfer.
+pub fn ended_fields(code: u8, extra: u8, e: Ending) -> Fields
+    ensures { λ r. ⌜ r ≡ endedFields code extra e ⌝ }
 {
     let key = e.key;
     let kind = e.kind;
@@ -144,11 +145,19 @@ pub fn ended_fields(code: u8, e: Ending) -> Fields
         code: code,
         key: key,
         kind: kind_byte(kind),
-        extra: 0,
+        extra: extra,
         pgn: e.pgn,
         total: 0,
         segment: 0,
     }
+}
+
+// A session's ending says whether its requests were spent.
+pub fn session_ended(e: Ending) -> Fields
+    ensures { λ r. ⌜ r ≡ sessionEnded e ⌝ }
+{
+    let n = e.refusal;
+    ended_fields(7, refusal::spent(n), e)
 }
 
 fn rejection_fields(j: Rejection) -> Fields
@@ -161,8 +170,24 @@ fn rejection_fields(j: Rejection) -> Fields
         code: 8,
         key: key,
         kind: 1,
-        extra: 0,
+        extra: refusal::spent(n),
         pgn: j.pgn,
+        total: 0,
+        segment: 0,
+    }
+}
+
+fn refused_fields(n: Refusal) -> Fields
+    ensures { λ r. ⌜ r ≡ refusedFields n ⌝ }
+{
+    let key = no_key();
+    Fields {
+        number: refusal::number(n),
+        code: 9,
+        key: key,
+        kind: 0,
+        extra: refusal::spent(n),
+        pgn: 0,
         total: 0,
         segment: 0,
     }
@@ -178,9 +203,9 @@ fn fields_of(a: Answer) -> Fields
         Answer::Grant(c) => grant_fields(c),
         Answer::HandedOver(m) => message_fields(m),
         Answer::Aborted(k) => keyed_fields(6, 0, k),
-        Answer::Ended(e) => ended_fields(7, e),
+        Answer::Ended(e) => session_ended(e),
         Answer::RefusedRts(j) => rejection_fields(j),
-        Answer::Refused(n) => keyed_fields(9, refusal::number(n), no_key()),
+        Answer::Refused(n) => refused_fields(n),
     }
 }
 

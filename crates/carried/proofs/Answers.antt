@@ -11,6 +11,7 @@ use Rattle.answer.specs.declared.End.the-variants as end
 use Rattle.answer.specs.Answers.{abortFor, wireOf}
 use Rattle.transport.specs.Kinds.{isRts}
 use Rattle.session.specs.Bounds.{sessionOk, stateOk}
+use Rattle.session.specs.Fits.{SessionSmall, StateSmall}
 use Rattle.slots.specs.Bounds.{valuesOk, slotOk, twinOf, slotsOk}
 use Rattle.receiver.specs.Bounds.{inBounds}
 use Rattle.laws.specs.Choice.{each-of}
@@ -25,7 +26,7 @@ use Rattle.session.specs.Decisions.{endingOf, isSilent}
 use Rattle.slots.specs.declared.Slot.{Slot}
 use Rattle.receiver.specs.declared.Receiver.{Receiver}
 use Rattle.receiver.specs.Calls.{Elapsed, isReady, slotEnd, stays, readingKept, readingStep}
-use Rattle.record_bytes.specs.RoundTrip.{SessionFits, StateFits, SlotsFit, RecordFits}
+use Rattle.record_bytes.specs.RoundTrip.{SlotsFit, RecordFits}
 use Rattle.isolation.proofs.Many.{own-small}
 use Rattle.carried.proofs.ReadBack.{WireFits, EndFits, EndsFit}
 use Rattle.carried.proofs.Sent.{session-id-fits}
@@ -54,11 +55,11 @@ slot-ends own limits t h (x ∷ l) e (f, fs) =
     sends s e true = session-id-fits own s h e
     sends s e false = tt
 
-    by : (s : Session) → sessionOk own s ≡ true → SessionFits s → (b : Bool) → EndFits (cond b (end.Ended (endingOf s Silence)) end.Stays)
+    by : (s : Session) → sessionOk own s ≡ true → SessionSmall s → (b : Bool) → EndFits (cond b (end.Ended (endingOf s Silence)) end.Stays)
     by s e f true = (f .pgn, sends s e (isRts (s .announced .kind)))
     by s e f false = tt
 
-    go : (st : State) → stateOk own st ≡ true → StateFits st → EndFits (slotEnd limits t (record { state = st }) .end)
+    go : (st : State) → stateOk own st ≡ true → StateSmall st → EndFits (slotEnd limits t (record { state = st }) .end)
     go Closed e f = tt
     go (Open s) e f = by s e f (isSilent limits t s)
 

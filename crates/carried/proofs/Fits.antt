@@ -26,14 +26,13 @@ use Rattle.transport.specs.declared.Kind.the-variants.{Rts, Bam}
 use Rattle.transport.specs.declared.announcement.Announcement.{Announcement}
 use Rattle.transport.specs.declared.control.Control.the-variants as control
 use Rattle.transport.specs.declared.segment.Segment.{Segment}
-use Rattle.transport.specs.declared.segment.DataFrame.{DataFrame}
 use Rattle.transport.specs.declared.segment.DataFrame.the-variants as dataframe
 use Rattle.transport.specs.Control.{notReceivers, controlOf}
 use Rattle.transport.specs.Heads.{controlAt, keyOf}
 use Rattle.transport.specs.Announcements.{announcementAt}
 use Rattle.transport.specs.Eoms.{statusAt}
 use Rattle.transport.specs.Aborts.{roleAt, abortPgnAt}
-use Rattle.transport.specs.Segments.{dataFrameOf}
+use Rattle.transport.specs.Segments.{segmentAt, dataFrameOf}
 use Rattle.answer.specs.declared.Answer.{Answer}
 use Rattle.answer.specs.declared.Acceptance.the-variants as acceptance
 use Rattle.answer.specs.declared.End.the-variants as end
@@ -56,22 +55,21 @@ use Rattle.receiver.specs.declared.Receiver.{Receiver}
 use Rattle.receiver.specs.Bounds.{inBounds}
 use Rattle.receiver.specs.Calls.{Outcome, Stepped, Elapsed, refused, withSlot, applied, apply, slotOf, announceStep, statusStep, abortStep, onControl, controlStep, segmentStep, onData, isReady, groupsStep, onVerdict, frameAll, afterEnd, expired, stays, readingKept, readingStep}
 use Rattle.record_bytes.specs.Kept.{Bytes}
-use Rattle.record_bytes.specs.RoundTrip.{SessionFits, StateFits, SlotsFit, RecordFits}
+use Rattle.record_bytes.specs.RoundTrip.{SlotsFit, RecordFits}
 use Rattle.dwaebinam.specs.Handed.{for-within}
 use Rattle.isolation.proofs.Opening.{allowed}
 use Rattle.carried.specs.Fitting.{StateNarrow, SlotsNarrow, Narrow}
 
 -- ---- what fits
 
-state-fits : (own : Address) (x : State) → stateOk own x ≡ true → StateNarrow x → StateFits x
+state-fits : (own : Address) (x : State) → stateOk own x ≡ true → StateNarrow x → StateSmall x
 state-fits own Closed e h = tt
-state-fits own (Open s) e (g, m) =
+state-fits own (Open s) e h =
     let ok : Sound own s = sound-of own s e in
     let p : s .announced .pgn < 262144 = ltb-true (s .announced .pgn) 262144 (and-elim-left (ltb (s .announced .pgn) 262144) (lowByteOk (s .announced .pgn)) (ok .agreed .form)) in
     let t : s .announced .total .0 ≤ 4096 = ok .agreed .fits in
     let c : s .announced .segments .0 ≤ 4155 = (let z = ok .agreed .count in omega arith) in
-    let n : s .progress .next .0 ≤ s .announced .segments .0 + 1 = ok .reached .high in
-    record { total = omega arith; segments = omega arith; pgn = omega arith; next = omega arith; granted = g; mark = m }
+    record { total = omega arith; segments = omega arith; pgn = omega arith; progress = h }
 
 slots-fit : (own : Address) (l : List Slot) → slotsOk own l ≡ true → SlotsNarrow l → SlotsFit l
 unfolding slotsOk
@@ -104,7 +102,7 @@ narrow-set [] i s h g = tt
 narrow-set (x ∷ l) zero s (h, hs) g = (g, hs)
 narrow-set (x ∷ l) (suc i) s (h, hs) g = (h, narrow-set l i s hs g)
 
-pub fits-at : (l : List Slot) (i : ℕ) → SlotsFit l → StateFits (getD l i freeSlot .state)
+pub fits-at : (l : List Slot) (i : ℕ) → SlotsFit l → StateSmall (getD l i freeSlot .state)
 fits-at [] i h = tt
 fits-at (x ∷ l) zero (h, hs) = h
 fits-at (x ∷ l) (suc i) (h, hs) = fits-at l i hs
@@ -123,16 +121,16 @@ narrow-expired limits t (x ∷ l) (h, hs) = (go (x .state) h, narrow-expired lim
 
 -- ---- a step applied to its slot
 
-small-of : (x : State) → StateFits x → StateSmall x
-small-of Closed f = tt
-small-of (Open s) f = record { total = f .total; segments = f .segments; pgn = f .pgn; granted = f .granted }
-
-pgn-small : (d : List ℕ) → Bytes d → low24 d 9 < 4294967296
-pgn-small d h =
-    let a : getD d 9 0 < 256 = h 9 in
-    let b : getD d 10 0 < 256 = h 10 in
-    let c : getD d 11 0 < 256 = h 11 in
+-- a number of three bytes
+low24-small : (d : List ℕ) → Bytes d → (i : ℕ) → low24 d i < 16777216
+low24-small d h i =
+    let a : getD d i 0 < 256 = h i in
+    let b : getD d (i + 1) 0 < 256 = h (i + 1) in
+    let c : getD d (i + 2) 0 < 256 = h (i + 2) in
     omega arith
+
+small-of : (n : ℕ) → n < 16777216 → n < 4294967296
+small-of n h = omega arith
 
 -- the next record is narrow, and the answer's numbers have their places
 pub record Well (x : Stepped) : Type 0 where
@@ -176,17 +174,17 @@ module _ (r : Receiver) (h : Narrow r) (f : RecordFits r) where
 
   state-small : (g : Found) → StateSmall (stateIn g (r .slots))
   state-small Nothing = tt
-  state-small (At i) = small-of (getD (r .slots) i freeSlot .state) (fits-at (r .slots) i (f .slots))
+  state-small (At i) = fits-at (r .slots) i (f .slots)
 
   slot-small : (g : Found) → Within g 8 → slotOf g < 256
   slot-small Nothing w = omega arith
   slot-small (At i) w = omega arith
 
-  announces : (k : Key) (a : Announcement) → a .pgn < 4294967296 → Well (announceStep r k a)
+  announces : (k : Key) (a : Announcement) → a .pgn < 4294967296 → a .segments .0 < 4294967296 → Well (announceStep r k a)
   unfolding announceStep
-  announces k a p =
+  announces k a p g′ =
       let g : Found = slotFor k (r .slots) in
-      well g (announcedTo (stateIn g (r .slots)) (isAt g) k a (r .last)) (announce-fits (stateIn g (r .slots)) (isAt g) k a (r .last) p (h .last))
+      well g (announcedTo (stateIn g (r .slots)) (isAt g) k a (r .last)) (announce-fits k a (r .last) p g′ (h .last) (stateIn g (r .slots)) (isAt g))
 
   controls : (route : Route) (d : List ℕ) → Bytes d → Well (controlStep r route d)
   unfolding controlStep controlOf statusStep abortStep
@@ -204,37 +202,37 @@ module _ (r : Receiver) (h : Narrow r) (f : RecordFits r) where
           (cond v (control.Announce (announcementAt Bam d))
           (cond w (control.EndOfMessage (statusAt d)) (cond x (control.Abort (abortPgnAt d)) (control.Refused (notReceivers d))))))) r (keyOf route d))
       go true u v w x = refused-well TransferLength
-      go false true v w x = announces K (announcementAt Rts d) (pgn-small d b)
-      go false false true w x = announces K (announcementAt Bam d) (pgn-small d b)
+      go false true v w x = announces K (announcementAt Rts d) (small-of (low24 d 9) (low24-small d b 9)) (small-of (low24 d 4) (low24-small d b 4))
+      go false false true w x = announces K (announcementAt Bam d) (small-of (low24 d 9) (low24-small d b 9)) (small-of (low24 d 4) (low24-small d b 4))
       go false false false true x =
-          well G (statusTo (stateIn G (r .slots)) (slotOf G) (statusAt d))
-          (status-fits (stateIn G (r .slots)) (slotOf G) (statusAt d) (state-small G) (slot-small G (for-within K (r .slots) 8 (f .eight))))
+          well G (statusTo (stateIn G (r .slots)) (slotOf G) (statusAt d) (r .last))
+          (status-fits (stateIn G (r .slots)) (slotOf G) (statusAt d) (r .last) (state-small G) (slot-small G (for-within K (r .slots) 8 (f .eight))) (h .last))
       go false false false false true = well G (abortTo (stateIn G (r .slots)) (abortPgnAt d)) (abort-fits (stateIn G (r .slots)) (abortPgnAt d))
       go false false false false false = refused-well (notReceivers d)
 
-  segments : (k : Key) (sg : Segment) (d m : List ℕ) → Well (segmentStep r k sg d m .0)
+  segments : (k : Key) (sg : Segment) (d m : List ℕ) → sg .number .0 < 16777216 → Well (segmentStep r k sg d m .0)
   unfolding segmentStep
-  segments k sg d m =
+  segments k sg d m few =
       let g : Found = slotFor k (r .slots) in
-      well g (segmentTo (stateIn g (r .slots)) sg (r .last)) (segment-fits (stateIn g (r .slots)) sg (r .last) (state-small g) (h .last))
+      well g (segmentTo (stateIn g (r .slots)) sg (r .last)) (segment-fits (stateIn g (r .slots)) sg (r .last) (state-small g) few (h .last))
 
   pub frame-well : (id : ℕ) (d m : List ℕ) → Bytes d → Well (frameAll r id d m .0)
-  unfolding frameAll
+  unfolding frameAll dataFrameOf
   frame-well id d m b = go (isReady r m) (judged (r .own) id (length d))
     where
       groups : (x : GroupsRead) (route : Route) → Well (groupsStep x route r)
       groups (good gs) route = record { narrow = h; answer = tt }
       groups (bad n) route = refused-well n
 
-      datas : (x : DataFrame) (route : Route) → Well (onData x r (keyOf route d) d m .0)
-      datas (dataframe.Segment sg) route = segments (keyOf route d) sg d m
-      datas (dataframe.Refused n) route = refused-well n
+      datas : (t : Bool) (route : Route) → Well (onData (cond t (dataframe.Refused TransferLength) (dataframe.Segment (segmentAt d))) r (keyOf route d) d m .0)
+      datas true route = refused-well TransferLength
+      datas false route = segments (keyOf route d) (segmentAt d) d m (low24-small d b 1)
 
       go : (t : Bool) (v : Verdict) → Well (cond t (onVerdict v r d m) (refused r OutOfBounds, m) .0)
       go false v = refused-well OutOfBounds
       go true (verdict.MultiPg route) = groups (groupsRead d) route
       go true (verdict.Control route) = controls route d b
-      go true (verdict.Data route) = datas (dataFrameOf d) route
+      go true (verdict.Data route) = datas (ltb (length d) 5) route
       go true (verdict.Refused n) = refused-well n
 
   -- ---- a reading

@@ -7,7 +7,7 @@ use mathlib.Core.Option.{Option, none, some}
 use mathlib.Core.List.{List, [], _∷_, _++_}
 use lib.ListN.{length, getD}
 use lib.Seq.{take-at, drop-at}
-use Rattle.frame.specs.Refusals.{numberOf}
+use Rattle.frame.specs.Refusals.{numberOf, spentOf}
 use Rattle.frame.specs.declared.refusal.Refusal.{Refusal}
 use Rattle.frame.specs.Numbers.{refusalAt, refusal-back}
 use Rattle.transport.specs.declared.Kind.{Kind}
@@ -39,7 +39,7 @@ kind-back Rts = refl
 kind-back Bam = refl
 
 ending-back : (e : Ending) → e .pgn < 4294967296
-    → _≡_ {A = Ending} (record { key = e .key; kind = kindAt (kindByte (e .kind)); refusal = refusalAt (numberOf (e .refusal)); pgn = fourBytes (e .pgn) }) e
+    → _≡_ {A = Ending} (record { key = e .key; kind = kindAt (kindByte (e .kind)); refusal = refusalAt (numberOf (e .refusal)) (spentOf (e .refusal)); pgn = fourBytes (e .pgn) }) e
 ending-back e f =
     ap₂ (λ (k : Kind) (n : Refusal). record { key = e .key; kind = k; refusal = n; pgn = fourBytes (e .pgn) }) (kind-back (e .kind)) (refusal-back (e .refusal))
     ∙ ap (λ (n : ℕ). record { key = e .key; kind = e .kind; refusal = e .refusal; pgn = n }) (low32-read-back (e .pgn) f)

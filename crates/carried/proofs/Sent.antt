@@ -29,7 +29,7 @@ use Rattle.isolation.specs.Standard.{Cause}
 use Rattle.isolation.specs.OwnFrames as own-frames
 use Rattle.isolation.specs.OwnFrames.{keyAt, frameKey, Body, announce, segment, status, abort, bodyOf}
 use Rattle.isolation.specs.Replies.{Wire, Reply, sent, reject, ending, cts, plain, handOver}
-use Rattle.isolation.specs.Rules.{Values, Open, Out, opens, announced, nextOf, isTaken, due, adds, spent, segmentOpen, asAnnounced, statusOpen, abortOpen, ifOpen, rule}
+use Rattle.isolation.specs.Rules.{Values, Open, Out, opens, announced, outOfTurn, isTaken, due, adds, spent, segmentOpen, asAnnounced, asks, lacks, statusOpen, abortOpen, ifOpen, rule}
 use Rattle.isolation.specs.Observe.{replyOf}
 use Rattle.isolation.specs.Stands.{valuesOf, standsFor}
 use Rattle.isolation.proofs.Announced.{Comes, astray, refused as turned-away, accepted, comes}
@@ -110,12 +110,12 @@ module _ (k : ℕ) (low : k < 1048576) where
   unfolding segmentOpen adds
   segment-fits last ρ n d =
       sends-if (eqb n 0 || isTaken n (ρ .pieces)) _ _ tt
-      (sends-if (ltb (nextOf ρ) n || ltb (ρ .told .segments .0) n) _ _ (ending-fits (ρ .told) _)
+      (sends-if (outOfTurn ρ n || ltb (ρ .told .segments .0) n) _ _ (ending-fits (ρ .told) _)
       (sends-if (ltb (length d) (due (ρ .told .total .0) n)) _ _ tt
       (reply-if (spent ρ n) _ _ (cts-fits _ _ _) tt)))
 
   rule-fits : (v : Values) (last : ℕ) (eight : Bool) (x : Option Open) (b : Body) → Sends (rule v k last eight x b .1)
-  unfolding rule statusOpen abortOpen
+  unfolding rule statusOpen lacks asks abortOpen
   rule-fits v last eight x (announce a) = announce-fits (v .own) last eight x a
   rule-fits v last eight x (segment format n d) = sends-if (not (eqb format 0)) _ _ tt (go x)
     where
@@ -123,7 +123,11 @@ module _ (k : ℕ) (low : k < 1048576) where
       go none = tt
       go (some ρ) = segment-fits last ρ n d
   rule-fits v last eight none (status s) = tt
-  rule-fits v last eight (some ρ) (status s) = sends-if (asAnnounced ρ s) _ _ (hand-fits (ρ .told) _) (ending-fits (ρ .told) _)
+  rule-fits v last eight (some ρ) (status s) =
+      sends-if (not (asAnnounced ρ s)) _ _ (ending-fits (ρ .told) _)
+      (sends-if (eqb (length (ρ .pieces)) (ρ .told .segments .0)) _ _ (hand-fits (ρ .told) _)
+      (sends-if (not (own-frames.isRts (ρ .told .kind))) _ _ (ending-fits (ρ .told) _)
+      (sends-if (ltb (ρ .requests) 5) _ _ (cts-fits _ _ _) (ending-fits (ρ .told) _))))
   rule-fits v last eight none (abort pgn) = tt
   rule-fits v last eight (some ρ) (abort pgn) = sends-if (eqb pgn (ρ .told .pgn)) _ _ tt tt
 

@@ -20,7 +20,7 @@ abbrev pub keyIn : List ℕ → Key
 keyIn p = record { sa = record { 0 = getD p saPlace 0 }; da = record { 0 = getD p daPlace 0 }; session = record { 0 = getD p sessionPlace 0 } }
 
 abbrev pub endingIn : List ℕ → Ending
-endingIn p = record { key = keyIn p; kind = kindAt (getD p kindPlace 0); refusal = refusalAt (getD p numberPlace 0); pgn = low32 p pgnPlace }
+endingIn p = record { key = keyIn p; kind = kindAt (getD p kindPlace 0); refusal = refusalAt (getD p numberPlace 0) (getD p extraPlace 0); pgn = low32 p pgnPlace }
 
 -- the bytes of an answer do not say where a Multi-PG frame came from and went: who lent the frame has its identifier
 abbrev pub noRoute : Route
@@ -55,8 +55,8 @@ answerBy code p =
     }))
     (cond (eqb code 6) (Aborted (keyIn p))
     (cond (eqb code 7) (Ended (endingIn p))
-    (cond (eqb code 8) (RefusedRts (record { key = keyIn p; refusal = refusalAt (getD p numberPlace 0); pgn = low32 p pgnPlace }))
-    (Refused (refusalAt (getD p numberPlace 0))))))))))
+    (cond (eqb code 8) (RefusedRts (record { key = keyIn p; refusal = refusalAt (getD p numberPlace 0) (getD p extraPlace 0); pgn = low32 p pgnPlace }))
+    (Refused (refusalAt (getD p numberPlace 0) (getD p extraPlace 0))))))))))
 
 -- by the code that is second
 abbrev pub answerAt : List ℕ → Answer

@@ -19,32 +19,36 @@ use Rattle.delivery.proofs.Sending.{transferAt, firstGrant, Gives, anno
 use Rattle.delivery.proofs.Stages.{flight, Stage, announcing, granting, moving, acknowledging, done, Marks, shapeAt, linkAt, Stands, Reached, measure-at}
 use Rattle.delivery.proofs.Steps.{Step, moves}
 
+pub full : {A : Type 0} (a : A) (l : List A) → a ∷ l ≡ [] → ⊥
+full a l e = let z : _≡_ {A = ℕ} 0 1 = cc in omega arith
+
+-- where a frame is given, something is due
+pub given : (s : Setting) (last : ℕ) {x y : State} {f : Wire} {w : Bool} → Gives s x last (f ∷ []) y w → framesDue s x last ≡ [] → ⊥
+given s last d e = full _ [] (sym (d .frames) ∙ e)
+
+pub by-works : (a b : ℕ) (w : Bool) → a + cond w 1 0 ≤ b → (w ≡ true → a < b) × (w ≡ false → a ≤ b)
+by-works a b true h = ((λ e. omega arith), (λ e. absurd (let z : _≡_ {A = ℕ} 0 1 = cc in omega arith)))
+by-works a b false h = ((λ e. absurd (let z : _≡_ {A = ℕ} 0 1 = cc in omega arith)), (λ e. omega arith))
+
+pub handed-whole : (κ : Kind) (s : Setting) → Goes κ (s .key) → _≡_ {A = List Says} (handedBy κ s ∷ []) (whole s ∷ [])
+handed-whole κ s goes = rw (kind-is κ (s .key) goes)
+
 -- ---- the facts at a stage
 
 module _ (s : Setting) (fair : Fair s) (κ : Kind) (goes : Goes κ (s .key)) (r : Marks) where
-  handed-whole : _≡_ {A = List Says} (handedBy κ s ∷ []) (whole s ∷ [])
-  handed-whole = rw (kind-is κ (s .key) goes)
-
   once-at : (stage : Stage) → (linkAt κ s stage r .handed ≡ []) ⊎ (linkAt κ s stage r .handed ≡ whole s ∷ [])
   unfolding shapeAt
   once-at (announcing n e) = inl refl
   once-at (granting j c) = inl refl
   once-at (moving j n g e) = inl refl
-  once-at acknowledging = inr handed-whole
-  once-at done = inr handed-whole
+  once-at acknowledging = inr (handed-whole κ s goes)
+  once-at done = inr (handed-whole κ s goes)
 
   falls-at : (stage : Stage) → Stands κ s stage → (v : Move) → CalmAt s (linkAt κ s stage r) v
       → measure (step s (linkAt κ s stage r) v) + cond (works s (linkAt κ s stage r) v) 1 0 ≤ measure (linkAt κ s stage r)
   falls-at stage st v calm =
       let q : Step κ s v stage r = moves s fair r κ goes stage st v calm in
       rw (q .same, measure-at κ s (q .stage) (q .stands) (q .marks), measure-at κ s stage st r) (q .falls)
-
-  full : {A : Type 0} (a : A) (l : List A) → a ∷ l ≡ [] → ⊥
-  full a l e = let z : _≡_ {A = ℕ} 0 1 = cc in omega arith
-
-  -- where a frame is given, something is due
-  given : {x y : State} {f : Wire} {w : Bool} → Gives s x (r .sendersLast) (f ∷ []) y w → framesDue s x (r .sendersLast) ≡ [] → ⊥
-  given d e = full _ [] (sym (d .frames) ∙ e)
 
   -- nothing is on its way and nothing is due: only the last stage
   rest-at : (stage : Stage) → Stands κ s stage → AtRest (linkAt κ s stage r)
@@ -60,14 +64,10 @@ module _ (s : Setting) (fair : Fair s) (κ : Kind) (goes : Goes κ (s .key)) (r 
       none-due = none-given s (transferAt κ s (r .sendersMark) (j + 0) g false) (r .sendersLast) (h .nothing)
 
       go : (j < g) ⊎ (j ≡ count s) → ⊥
-      go (inl l) = given (gives-segment s (r .sendersMark) (r .sendersLast) (j + 0) g κ (omega arith) (st .sent .bound)) none-due
-      go (inr e) = given (gives-eoms s (r .sendersMark) (r .sendersLast) (j + 0) g κ goes (omega arith)) none-due
+      go (inl l) = given s (r .sendersLast) (gives-segment s (r .sendersMark) (r .sendersLast) (j + 0) g κ (omega arith) (st .sent .bound)) none-due
+      go (inr e) = given s (r .sendersLast) (gives-eoms s (r .sendersMark) (r .sendersLast) (j + 0) g κ goes (omega arith)) none-due
   rest-at acknowledging st h = absurd (full _ _ (h .backward))
-  rest-at done st h = (handed-whole, refl)
-
-  by-works : (a b : ℕ) (w : Bool) → a + cond w 1 0 ≤ b → (w ≡ true → a < b) × (w ≡ false → a ≤ b)
-  by-works a b true h = ((λ e. omega arith), (λ e. absurd (let z : _≡_ {A = ℕ} 0 1 = cc in omega arith)))
-  by-works a b false h = ((λ e. absurd (let z : _≡_ {A = ℕ} 0 1 = cc in omega arith)), (λ e. omega arith))
+  rest-at done st h = (handed-whole κ s goes, refl)
 
   arrives-at : (stage : Stage) → Stands κ s stage → Arrives s (linkAt κ s stage r)
   arrives-at stage st = record {

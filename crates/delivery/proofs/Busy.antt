@@ -1,11 +1,13 @@
--- A run from record to record that comes to rest, with another transfer and another session open: the theorem is not about nothing.
+-- Runs from record to record, with another transfer and another session open: the theorems are not about nothing.
 use Prim.Native.Nat.{ℕ, zero, suc}
 use native.Mathlib.Omega.{arith}
 use mathlib.Core.Logic.{inl}
 use mathlib.Core.Path.{_≡_, refl}
 use mathlib.Core.Bool.{true}
 use mathlib.Core.List.{List, [], _∷_}
-use lib.ListN.{replicate, length-replicate}
+use lib.ListN.{length, replicate, length-replicate}
+use Rattle.segments.specs.Digits.{digit}
+use Rattle.segments.specs.Model.{isIn, missingOf, firstFrom, runFrom}
 use Rattle.progress.specs.declared.wait.IdleLimits.{IdleLimits}
 use Rattle.frame.specs.Judge.{judged, byFormat}
 use Rattle.frame.specs.Lengths.{frameLength}
@@ -19,6 +21,7 @@ use Rattle.session.specs.Decisions.{segmentTo, statusTo}
 use Rattle.session.specs.Decisions as session
 use Rattle.session.specs.Segments.{dueOf, judgedOf}
 use Rattle.session.specs.Ends.{elapsed}
+use Rattle.slots.specs.Slots.{freeSlot}
 use Rattle.slots.specs.Bounds.{slotsOk}
 use Rattle.transfer.specs.declared.State.the-variants.{Closed}
 use Rattle.transfer.specs.Transfers.{segmentsOf}
@@ -30,13 +33,16 @@ use Rattle.receiver.specs.declared.Receiver.{Receiver}
 use Rattle.receiver.specs.Bounds.{inBounds, openedWith}
 use Rattle.receiver.specs.Calls.{announceStep, statusStep, controlStep, segmentStep, frameAll, readingStep}
 use Rattle.isolation.specs.Standard.{fdLengths, isOneOf}
-use Rattle.isolation.specs.OwnFrames.{frameKey, bodyOf, taken, controlBody, dataBody}
-use Rattle.isolation.specs.Observe.{isOwn, isBody, lost, openIn, replyOf, saysOf}
+use Rattle.isolation.specs.OwnFrames.{frameKey, bodyOf, taken, controlBody, dataBody, isRts}
+use Rattle.isolation.specs.Stands.{openOf, standsFor}
+use Rattle.isolation.specs.Observe.{isOwn, isBody, lost, openIn, replyOf, saysOf, endReply, endingOf, endingsOf}
 use Rattle.delivery.specs.Link.{Setting, bodyFor}
 use Rattle.delivery.specs.Arrival.{whole}
 use Rattle.delivery.specs.System as system
 use Rattle.delivery.specs.System.{System, Move, ask, takeForward, takeBackward, readSender, readReceiver, frameAside, announceAside, askAside, hearAside, asked, heard, takenForward, takenBackward, aside, start, step, run}
 use Rattle.delivery.specs.Whole.{Starts, Meets, AtRest}
+use Rattle.delivery.specs.Losses.{isNeeded, mayLose, HandedOver}
+use Rattle.delivery.specs.WholeLosses.{Lossy, keeps, losesForward, losesBackward, queues, lossy, lossyRun, Borne, linkIn}
 
 ramp : ℕ → List ℕ
 ramp zero = []
@@ -100,7 +106,7 @@ after = run setting before moves
 
 meets : Meets setting before moves
 unfolding sender.inBounds inBounds slotsOk model.announceStep model.askStep model.frameStep model.readingStep announcedTo nextFrame askedTo ctsOpen eomaOpen hears ramp
-    judged byFormat frameLength controlOf idTo segmentBytes dataFrameOf responseBytes responseOf grantOf formOf segmentTo statusTo session.announcedTo dueOf judgedOf elapsed segmentsOf
+    judged byFormat frameLength controlOf idTo segmentBytes dataFrameOf responseBytes responseOf grantOf formOf segmentTo statusTo session.announcedTo dueOf judgedOf isIn missingOf digit elapsed segmentsOf
     announceStep statusStep controlStep segmentStep frameAll readingStep replyOf saysOf asked heard system.taken takenForward takenBackward aside start step run
     isOwn isBody lost openIn frameKey bodyOf taken isOneOf fdLengths controlBody dataBody bodyFor
 meets = (refl, (refl, ((λ e. refl), (refl, (tt, (refl, (refl, (refl, (tt, (tt, (tt, ((λ e. refl), ((λ e. refl), ((λ e. refl), (tt, tt)))))))))))))))
@@ -110,6 +116,54 @@ Rests = AtRest setting after × (after .handed ≡ whole setting ∷ []) × (aft
 
 rests : Rests
 unfolding sender.inBounds inBounds slotsOk model.announceStep model.askStep model.frameStep model.readingStep announcedTo nextFrame askedTo ctsOpen eomaOpen hears ramp
-    judged byFormat frameLength controlOf idTo segmentBytes dataFrameOf responseBytes responseOf grantOf formOf segmentTo statusTo session.announcedTo dueOf judgedOf elapsed segmentsOf
+    judged byFormat frameLength controlOf idTo segmentBytes dataFrameOf responseBytes responseOf grantOf formOf segmentTo statusTo session.announcedTo dueOf judgedOf isIn missingOf digit elapsed segmentsOf
     announceStep statusStep controlStep segmentStep frameAll readingStep replyOf saysOf asked heard system.taken takenForward takenBackward aside start step run
 rests = (record { forward = refl; backward = refl; nothing = tt }, refl, refl)
+
+-- ---- the same with losses: of two segments the first is lost, and asked for
+
+-- the same beside it
+abbrev opening : List Lossy → List Lossy
+opening vs =
+    keeps (announceAside (record { 0 = 33 }) (record { 0 = 1 }) 65265 50)
+    ∷ keeps (frameAside 0x1C4DFF81 (0x54 ∷ 61 ∷ 0 ∷ 0 ∷ 2 ∷ 0 ∷ 0 ∷ 255 ∷ 0 ∷ 0xCA ∷ 0xFE ∷ 0 ∷ []))
+    ∷ keeps takeForward
+    ∷ vs
+
+abbrev firstLost : List Lossy
+firstLost =
+    opening (keeps takeBackward ∷ keeps ask ∷ losesForward ∷ keeps ask ∷ keeps takeForward ∷ keeps ask ∷ keeps takeForward ∷ keeps takeBackward
+    ∷ keeps ask ∷ keeps takeForward ∷ keeps ask ∷ keeps takeForward ∷ keeps takeBackward ∷ [])
+
+abbrev recovered : System
+recovered = lossyRun setting before firstLost
+
+borne : Borne setting before firstLost
+unfolding sender.inBounds inBounds slotsOk model.announceStep model.askStep model.frameStep model.readingStep announcedTo nextFrame askedTo ctsOpen eomaOpen hears ramp
+    judged byFormat frameLength controlOf idTo segmentBytes dataFrameOf responseBytes responseOf grantOf formOf segmentTo statusTo session.announcedTo dueOf judgedOf isIn missingOf digit elapsed segmentsOf
+    announceStep statusStep controlStep segmentStep frameAll readingStep replyOf saysOf asked heard system.taken takenForward takenBackward aside start step
+    isOwn isBody lost openIn frameKey bodyOf taken isOneOf fdLengths controlBody dataBody bodyFor queues lossy isNeeded mayLose standsFor openOf isRts firstFrom runFrom
+borne = (refl, (refl, ((λ e. refl), (tt, (tt, (refl, (tt, ((λ e. refl), (tt, ((λ e. refl), (tt, (tt, ((λ e. refl), (tt, ((λ e. refl), (tt, tt))))))))))))))))
+
+recovers : AtRest setting recovered × HandedOver setting (linkIn setting recovered)
+unfolding sender.inBounds inBounds slotsOk model.announceStep model.askStep model.frameStep model.readingStep announcedTo nextFrame askedTo ctsOpen eomaOpen hears ramp
+    judged byFormat frameLength controlOf idTo segmentBytes dataFrameOf responseBytes responseOf grantOf formOf segmentTo statusTo session.announcedTo dueOf judgedOf isIn missingOf digit elapsed segmentsOf
+    announceStep statusStep controlStep segmentStep frameAll readingStep replyOf saysOf asked heard system.taken takenForward takenBackward aside start step
+    queues lossy lossyRun firstFrom runFrom
+recovers = (record { forward = refl; backward = refl; nothing = tt }, (refl, refl, refl))
+
+-- ---- the CTS is lost: a silence ends the session, and one the transfer, each with its Abort; of the other session and the other transfer,
+-- which end by the same readings, none joins a queue
+
+abbrev silences : List Lossy
+silences = opening (losesBackward ∷ keeps (readReceiver 1250) ∷ keeps (readSender 2500) ∷ [])
+
+abbrev silent : System
+silent = lossyRun setting before silences
+
+falls-silent : (length (silent .forward) ≡ 1) × (length (silent .backward) ≡ 1) × (silent .sender .transfers ≡ replicate 4 Closed) × (silent .receiver .slots ≡ replicate 8 freeSlot)
+unfolding sender.inBounds inBounds slotsOk model.announceStep model.askStep model.frameStep model.readingStep announcedTo nextFrame askedTo ctsOpen eomaOpen hears ramp
+    judged byFormat frameLength controlOf idTo segmentBytes dataFrameOf responseBytes responseOf grantOf formOf segmentTo statusTo session.announcedTo dueOf judgedOf isIn missingOf digit elapsed segmentsOf
+    announceStep statusStep controlStep segmentStep frameAll readingStep replyOf saysOf asked heard system.taken takenForward takenBackward aside start step
+    queues lossy lossyRun endReply endingOf endingsOf
+falls-silent = (refl, refl, refl, refl)

@@ -16,7 +16,7 @@ use Rattle.transfer.specs.Decisions.{nextFrame, ctsOpen, eomaOpen, hears}
 use Rattle.isolation.specs.Standard.{fdLengths, isOneOf, inPgnForm}
 use Rattle.isolation.specs.OwnFrames.{frameKey, controlBody, dataBody, taken, bodyOf, isRts}
 use Rattle.isolation.specs.Replies.{sent, cts, handOver}
-use Rattle.isolation.specs.Rules.{isTaken, pieceAt, joined, misdirected, sixties, badNumbers, least, grant, opens, admitted, announced, due, spent, adds, segmentOpen, asAnnounced, statusOpen, rule, since, isSilent, judgedAt}
+use Rattle.isolation.specs.Rules.{isTaken, pieceAt, joined, misdirected, sixties, badNumbers, least, grant, opens, admitted, announced, due, spent, adds, outOfTurn, segmentOpen, asAnnounced, statusOpen, rule, since, isSilent, judgedAt}
 use Rattle.delivery.specs.Link.{Setting, Link, Move, ask, takeForward, takeBackward, readSender, readReceiver, answered, asked, bodyFor, atReceiver, takenForward, heard, atSender, takenBackward, keptAt, read, step, run, start}
 use Rattle.delivery.specs.Arrival.{Fair, Calm, AtRest, whole}
 
@@ -80,7 +80,7 @@ Rests k = Calm (setting k) (start (setting k) 0 0) turns × AtRest (ended k) × 
 
 -- 1,000 bytes are 17 segments, so two grants
 both-rest : Rests 524803 × Rests 528371
-unfolding rounds ramp frameLength idTo segmentBytes responseBytes responseOf dueOf elapsed segmentsOf nextFrame ctsOpen eomaOpen hears fdLengths isOneOf inPgnForm frameKey controlBody dataBody taken bodyOf isRts sent cts handOver isTaken pieceAt joined misdirected sixties badNumbers least grant opens admitted announced due spent adds segmentOpen asAnnounced statusOpen rule since isSilent judgedAt answered asked bodyFor atReceiver takenForward heard atSender takenBackward keptAt read step run start
+unfolding rounds ramp frameLength idTo segmentBytes responseBytes responseOf dueOf elapsed segmentsOf nextFrame ctsOpen eomaOpen hears fdLengths isOneOf inPgnForm frameKey controlBody dataBody taken bodyOf isRts sent cts handOver isTaken pieceAt joined misdirected sixties badNumbers least grant opens admitted announced due spent adds outOfTurn segmentOpen asAnnounced statusOpen rule since isSilent judgedAt answered asked bodyFor atReceiver takenForward heard atSender takenBackward keptAt read step run start
 both-rest = (
   ((tt, (tt, (tt, (refl, (refl, calm-rounds (setting 524803) (opened 524803) 19))))), record { forward = refl; backward = refl; nothing = tt }, refl, refl),
   ((tt, (tt, (tt, (refl, (refl, calm-rounds (setting 528371) (opened 528371) 19))))), record { forward = refl; backward = refl; nothing = tt }, refl, refl),

@@ -1,8 +1,9 @@
--- What the receiver does with the frame expected next. Only this file knows its rules; the rest sees `sessionAt` shut.
+-- What the receiver does with the frame expected next, and with what a broadcast finds after a loss. It and Requests know its rules; the
+-- rest sees `sessionAt` shut.
 use Prim.Native.Nat.{ℕ, suc, _+_, _-_, _/_, _%_, _≤_, _<_}
 use mathlib.Core.Path.{_≡_, refl, ap, _∙_}
 use mathlib.Core.Logic.{_⊎_, inl, inr}
-use mathlib.Core.Bool.{true, false, cond, _&&_}
+use mathlib.Core.Bool.{true, false, cond, not, _&&_, and-false}
 use mathlib.Core.Option.{Option, none, some}
 use mathlib.Core.List.{List, _∷_}
 use native.Mathlib.Omega.{arith}
@@ -21,14 +22,16 @@ use Rattle.progress.specs.Forward.{grantOf}
 use Rattle.session.specs.Segments.{dueOf}
 use Rattle.transfer.specs.Transfers.{segmentsOf, kindOf, maxOf, announcementOf}
 use Rattle.transfer.specs.Sends.{pieceOf, offerWire, segmentWire, statusWire}
-use Rattle.isolation.specs.OwnFrames.{keyAt, isRts, announce, segment}
-use Rattle.isolation.specs.Replies.{Wire, Says, Reply, handed, opened, took, sent, cts, plain, handOver}
-use Rattle.isolation.specs.Rules.{Piece, Open, joined, misdirected, badNumbers, opens, grant, admitted, announced, due, spent, adds, segmentOpen, asAnnounced, statusOpen, rule}
+use Rattle.isolation.specs.Standard.{numberFor}
+use Rattle.isolation.specs.OwnFrames.{keyAt, isRts, announce}
+use Rattle.isolation.specs.Replies.{Wire, Says, Reply, handed, opened, took, ended, refuse, ending, sent, cts, plain, handOver}
+use Rattle.isolation.specs.Rules.{Piece, Open, joined, misdirected, badNumbers, opens, admitted, announced, due, spent, adds, outOfTurn, segmentOpen, asAnnounced, lacks, statusOpen, rule}
 use Rattle.isolation.proofs.Same.{pgn-same, sixties-same, grant-same, due-same}
 use Rattle.isolation.proofs.Pieces.{cut, length-cut, taken-same, joined-cut}
 use Rattle.delivery.specs.Link.{Setting, keyIn, offer, byBody, received}
 use Rattle.delivery.specs.Arrival.{Fair}
-use Rattle.delivery.proofs.Wires.{frameOf, eomaWire, few-segments, reads-for, on-offer, on-status, on-segment, data-whole, data-long}
+use Rattle.delivery.specs.Losses.{toAnswer}
+use Rattle.delivery.proofs.Wires.{frameOf, eomaWire, few-segments, reads-for, on-offer, on-status, on-segment, data-taken, data-long}
 
 -- ---- the segments of the message; its kind, by its destination
 
@@ -43,7 +46,7 @@ pub kind-is : (κ : Kind) (k : ℕ) → Goes κ k → kindOf (keyAt k .da) ≡ �
 kind-is Rts k e = rw e
 kind-is Bam k e = rw e
 
-announcementFor : Kind → Setting → Announcement
+unfoldable pub announcementFor : Kind → Setting → Announcement
 announcementFor κ s = record { kind = κ; total = record { 0 = length (s .message) }; segments = record { 0 = count s }; max = maxOf κ (count s); assurance = 0; pgn = s .pgn }
 
 announced-is : (κ : Kind) (s : Setting) → Goes κ (s .key) → announcementOf (offer s) ≡ announcementFor κ s
@@ -63,6 +66,7 @@ sessionAt κ s q j g = record {
   mark = q .mark;
   wait = q .wait;
   granted = cond (isRts κ) g 0;
+  requests = 0;
   pieces = cut (length (s .message)) j (s .message);
 }
 
@@ -97,7 +101,7 @@ module _ (s : Setting) (fair : Fair s) where
           ne-eqb (count s % 256) 0 (λ e. omega arith)
       go Bam = refl
 
-  accepted : (κ : Kind) → Goes κ (s .key) → (last : ℕ) → received s none last (offerWire (offer s)) ≡ opens (s .key) last (announcementFor κ s)
+  pub accepted : (κ : Kind) → Goes κ (s .key) → (last : ℕ) → received s none last (offerWire (offer s)) ≡ opens (s .key) last (announcementFor κ s)
   unfolding rule announced admitted announcementFor
   accepted κ e last =
       ap (byBody s none last) (reads-for s _ _ (on-offer s fair) ∙ ap (λ (a : Announcement). some (announce a)) (announced-is κ s e))
@@ -130,6 +134,10 @@ unfolding cut
 next-piece m j = let z : j + 1 ≡ suc j = omega arith in rw z
 
 module _ (s : Setting) (fair : Fair s) (last : ℕ) (q : Silence) (j g : ℕ) (l : j < count s) where
+  in-turn : (κ : Kind) → outOfTurn (sessionAt κ s q j g) (j + 1) ≡ false
+  unfolding outOfTurn sessionAt
+  in-turn κ = rw (length-cut (length (s .message)) j (s .message), le-ltb (j + 1) (j + 1) (omega arith)) (and-false (not (isRts (sessionAt κ s q j g .told .kind))))
+
   -- it is in order and whole, so it is added
   in-order : (κ : Kind) → received s (some (sessionAt κ s q j g)) last (segmentWire (keyIn s) (s .message) (j + 1))
       ≡ adds (s .key) last (sessionAt κ s q j g) (j + 1) (dataAt (frameOf s fair (j + 1)))
@@ -137,9 +145,9 @@ module _ (s : Setting) (fair : Fair s) (last : ℕ) (q : Silence) (j g : ℕ) (l
   in-order κ =
       ap (byBody s (some (sessionAt κ s q j g)) last) (reads-for s _ _ (on-segment s fair (j + 1) (omega arith) (omega arith)))
       ∙ rw (
+        in-turn κ,
         taken-same (length (s .message)) j (s .message) (j + 1),
         ne-eqb (j + 1) 0 (λ e. omega arith),
-        length-cut (length (s .message)) j (s .message),
         le-ltb (j + 1) (j + 1) (omega arith),
         le-ltb (count s) (j + 1) (omega arith),
         due-same (length (s .message)) (j + 1) (omega arith),
@@ -158,7 +166,7 @@ module _ (s : Setting) (fair : Fair s) (last : ℕ) (q : Silence) (j g : ℕ) (l
         → SegmentTaken
 
   piece-here : take (due (length (s .message)) (j + 1)) (dataAt (frameOf s fair (j + 1))) ≡ pieceOf (s .message) (j + 1)
-  piece-here = rw (due-same (length (s .message)) (j + 1) (omega arith)) (data-whole s fair (j + 1) (omega arith) (omega arith))
+  piece-here = data-taken s fair (j + 1) (omega arith) (omega arith)
 
   pub on-segment-rts : j < g → g ≤ count s → SegmentTaken
   unfolding sessionAt announcementFor adds spent isRts
@@ -196,7 +204,7 @@ abbrev pub acknowledged : Kind → Setting → Option Wire
 acknowledged Rts s = some (eomaWire s)
 acknowledged Bam s = none
 
-hands-over : (κ : Kind) (s : Setting) → handOver (s .key) (announcementFor κ s) (s .message) ≡ record { number = 0; says = handedBy κ s; sends = acknowledged κ s }
+pub hands-over : (κ : Kind) (s : Setting) → handOver (s .key) (announcementFor κ s) (s .message) ≡ record { number = 0; says = handedBy κ s; sends = acknowledged κ s }
 unfolding handOver announcementFor isRts sent
 hands-over Rts s = refl
 hands-over Bam s = refl
@@ -214,3 +222,50 @@ on-eoms s fair κ last q g =
       joined-all (s .message),
     )
     (ap (λ (r : Reply). (none, r)) (hands-over κ s))
+
+-- ---- a broadcast that has lost a segment, and one that has ended
+
+-- the session has ended by a refusal
+abbrev pub brokenOff : Setting → ℕ → Reply
+brokenOff s n = record { number = n; says = ended (keyIn s) Bam (s .pgn); sends = none }
+
+module _ (s : Setting) (fair : Fair s) (last : ℕ) (q : Silence) where
+  pub later-segment : (a j g : ℕ) → a < j → j < count s
+      → received s (some (sessionAt Bam s q a g)) last (segmentWire (keyIn s) (s .message) (j + 1)) ≡ (none, brokenOff s 19)
+  unfolding rule segmentOpen outOfTurn sessionAt announcementFor isRts
+  later-segment a j g l u =
+      ap (byBody s (some (sessionAt Bam s q a g)) last) (reads-for s _ _ (on-segment s fair (j + 1) (omega arith) (omega arith)))
+      ∙ rw (
+        taken-same (length (s .message)) a (s .message) (j + 1),
+        ne-eqb (j + 1) 0 (λ e. omega arith),
+        le-ltb (j + 1) (a + 1) (omega arith),
+        length-cut (length (s .message)) a (s .message),
+        lt-ltb (a + 1) (j + 1) (omega arith),
+      )
+      (unfold ending numberFor in refl)
+
+  pub early-eoms : (a g : ℕ) → a < count s → received s (some (sessionAt Bam s q a g)) last (statusWire (offer s)) ≡ (none, brokenOff s 21)
+  unfolding rule statusOpen asAnnounced lacks sessionAt announcementFor isRts
+  early-eoms a g l =
+      ap (byBody s (some (sessionAt Bam s q a g)) last) (reads-for s _ _ (on-status s fair))
+      ∙ rw (
+        length-cut (length (s .message)) a (s .message),
+        ne-eqb a (count s) (λ e. omega arith),
+        eq-eqb (count s) (count s) refl,
+        eq-eqb (length (s .message)) (length (s .message)) refl,
+        eq-eqb (s .pgn) (s .pgn) refl,
+      )
+      (unfold ending numberFor in refl)
+
+  pub closed-segment : (j : ℕ) → j < count s → received s none last (segmentWire (keyIn s) (s .message) (j + 1)) ≡ (none, refuse 16)
+  unfolding rule
+  closed-segment j l = ap (byBody s none last) (reads-for s _ _ (on-segment s fair (j + 1) (omega arith) (omega arith)))
+
+  pub closed-eoms : received s none last (statusWire (offer s)) ≡ (none, refuse 16)
+  unfolding rule
+  closed-eoms = ap (byBody s none last) (reads-for s _ _ (on-status s fair))
+
+-- it sends no CTS
+pub answers-none : (s : Setting) (q : Silence) (a g : ℕ) → toAnswer s (some (sessionAt Bam s q a g)) ≡ 0
+unfolding toAnswer sessionAt announcementFor isRts
+answers-none s q a g = refl

@@ -4,8 +4,12 @@ pub mod Sending
 pub mod Stages
 pub mod Steps
 pub mod Arrival
+pub mod Missing
+pub mod Requests
+pub mod Frames
 pub mod Queues
 pub mod Example
+pub mod LossExample
 pub mod Transfers
 pub mod Kept
 pub mod Sides
@@ -14,3 +18,13 @@ pub mod Follows
 pub mod Whole
 pub mod Busy
 pub mod Bounded
+pub mod Waiting
+pub mod Broadcast
+pub mod Recovery
+pub mod Rights
+pub mod SafeSender
+pub mod SafeReceiver
+pub mod Safety
+pub mod FollowsLosses
+pub mod Alike
+pub mod WholeLosses

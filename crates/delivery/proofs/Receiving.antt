@@ -1,28 +1,36 @@
 -- What a call at the receiver does to the session of one key, whatever else the record holds: by the simulation that `isolation` proves.
 use Prim.Native.Nat.{ℕ}
-use mathlib.Core.Path.{_≡_, refl, sym, ap, _∙_}
+use mathlib.Core.Path.{_≡_, refl, sym, ap, _∙_, subst}
 use mathlib.Core.Bool.{Bool, true, false, cond, not, _&&_}
 use mathlib.Core.Option.{Option, none, some}
 use mathlib.Core.List.{List, [], _∷_}
 use native.Mathlib.Omega.{arith}
-use lib.Dec.{eqb}
-use borrow.Author.Tests.{eq-eqb}
-use Rattle.laws.specs.Bools.{clash, not-both, neither-left}
+use lib.Dec.{eqb, leb}
+use borrow.Author.Tests.{eqb-true, eq-eqb}
+use Rattle.laws.specs.Bools.{clash, not-both, neither-left, cond-true}
+use Rattle.laws.specs.Choice.{each-of}
+use Rattle.transport.specs.Kinds as kinds
+use Rattle.session.specs.declared.State.{State}
+use Rattle.session.specs.declared.State.the-variants as is
+use Rattle.session.specs.InBounds.{sound-of}
 use Rattle.slots.specs.declared.Found.{Found}
 use Rattle.slots.specs.declared.Found.the-variants.{At, Nothing}
-use Rattle.slots.specs.Slots.{firstFree, isAt}
+use Rattle.slots.specs.Slots.{keyPlace, firstFree, isAt}
 use Rattle.slots.specs.Searches.{lowest-some}
 use Rattle.answer.specs.declared.Answer.{Answer}
 use Rattle.answer.specs.declared.Answer.the-variants as answer
 use Rattle.receiver.specs.declared.Receiver.{Receiver}
 use Rattle.receiver.specs.Calls.{frameAll, readingStep}
-use Rattle.isolation.specs.OwnFrames.{frameKey, Body, bodyOf}
+use Rattle.isolation.specs.OwnFrames.{keyAt, isRts, frameKey, Body, bodyOf}
 use Rattle.isolation.specs.Replies.{Reply}
 use Rattle.isolation.specs.Rules as rules
-use Rattle.isolation.specs.Rules.{Values, Open, isOpen, isSilent, rule, judgedAt, nextState, output, outputs}
+use Rattle.isolation.specs.Rules.{Values, Open, isOpen, isSilent, rule, judgedAt, endsAt, nextState, output, outputs}
 use Rattle.isolation.specs.World.{frame, clock, lent, World, eightOthers, isAnnouncement, seesBody, sees, after, worldAfter}
-use Rattle.isolation.specs.Observe.{saysOf, replyOf, touches, isBody, isOwn, lost, openIn, strays, frameSeen, shows, recordAfter, storeAfter}
-use Rattle.isolation.proofs.Slots.{at, holds}
+use Rattle.isolation.specs.Observe.{saysOf, replyOf, touches, isBody, isOwn, lost, openIn, strays, frameSeen, endingsOf, readingSeen, shows, recordAfter, storeAfter}
+use Rattle.isolation.proofs.Slots.{at, holds, find-some, find-none}
+use Rattle.isolation.proofs.Bytes.{part}
+use Rattle.isolation.proofs.Same.{kind-same}
+use Rattle.isolation.proofs.Fit.{recordOf, Ses}
 use Rattle.isolation.proofs.Opened.{any}
 use Rattle.isolation.proofs.Many.{Sim, open-any, room}
 use Rattle.isolation.proofs.Run.{Keeps, keeps}
@@ -35,7 +43,28 @@ pub record Becomes (v : Values) (k t : ℕ) (x : Option Open) (r : Receiver) (m 
   pub session : world k .session ≡ x
   pub last : r .last ≡ t
 
+-- an RTS session is of a key to the receiver alone
+ses-aimed : (v : Values) (k : ℕ) (x : State) (p : List ℕ) (ρ : Open) → Ses v k x p (some ρ) → isRts (ρ .told .kind) ≡ true → keyAt k .da .0 ≡ v .own .0
+ses-aimed v k is.Closed p ρ h e = absurd h
+ses-aimed v k (is.Open s) p ρ (x, same, rel) e =
+    let t = each-of (leb (keyAt k .sa .0) 253 ∷ not (eqb (keyAt k .sa .0) (v .own .0)) ∷ eqb (keyAt k .da .0)
+    (cond (kinds.isRts (ρ .told .kind)) (v .own .0) 255) ∷ leb (keyAt k .session .0) 15 ∷ []) (sound-of (v .own) (recordOf k ρ x) (rel .fine) .key) in
+    eqb-true _ _ (t .1 .1 .0) ∙ cond-true (kinds.isRts (ρ .told .kind)) _ _ (sym (kind-same (ρ .told .kind)) ∙ e)
+
 module _ (v : Values) (r : Receiver) (m : List ℕ) (w : World) (sim : Sim v r m w) (k : ℕ) where
+  -- the key's session: none, or one that a slot has
+  in-slot : (P : Option Open → Type 0) → P none → ((i : ℕ) → holds k (at (r .slots) i) ≡ true → P (w k .session)) → P (w k .session)
+  in-slot P n f = go (keyPlace (keyAt k) (r .slots)) refl
+    where
+      go : (g : Found) → keyPlace (keyAt k) (r .slots) ≡ g → P (w k .session)
+      go Nothing e = subst P (sym (sim .shut k (find-none k (r .slots) e))) n
+      go (At i) e = f i (find-some k (r .slots) i e .0)
+
+  pub session-aimed : (ρ : Open) → w k .session ≡ some ρ → isRts (ρ .told .kind) ≡ true → keyAt k .da .0 ≡ v .own .0
+  session-aimed ρ = in-slot (λ y. y ≡ some ρ → isRts (ρ .told .kind) ≡ true → keyAt k .da .0 ≡ v .own .0)
+      (λ z. absurd (let c : _≡_ {A = ℕ} 0 1 = cc in omega arith))
+      (λ i h z. ses-aimed v k (at (r .slots) i) (part i m) ρ (subst (Ses v k (at (r .slots) i) (part i m)) z (sim .held i k h)))
+
   -- a slot is free: not eight other keys are open
   not-eight : isAt (firstFree (r .slots)) ≡ true → eightOthers w k ≡ false
   not-eight e = go (firstFree (r .slots)) refl e
@@ -139,6 +168,14 @@ module _ (v : Values) (r : Receiver) (m : List ℕ) (w : World) (sim : Sim v r m
       session = refl;
       last = sym (read .next .last k);
     }
+
+    -- the endings of the key are the rules'
+    pub reading-ends : endingsOf k (readingStep r t m .ends) ≡ endsAt v k t (w k .session)
+    unfolding shows readingSeen sees outputs output
+    reading-ends = same (read .says k)
+      where
+        same : {n n′ : ℕ} {a b : List Reply} → rules.reading n a ∷ [] ≡ rules.reading n′ b ∷ [] → a ≡ b
+        same e = cc
 
     -- a session that is not lost stays as it is
     pub reading-stays : lost k r (readingStep r t m .next) ≡ false → judgedAt v t (w k .session) ≡ w k .session

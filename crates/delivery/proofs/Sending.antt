@@ -1,13 +1,13 @@
--- What the sender gives, and does with the answers expected. Only this file knows its rules; the rest sees `transferAt` shut.
-use Prim.Native.Nat.{ℕ, _+_, _-_, _≤_, _<_}
+-- What the sender gives, and does with the answers expected. It and Waiting know its rules; the rest sees `transferAt` shut.
+use Prim.Native.Nat.{ℕ, _+_, _-_, _*_, _≤_, _<_}
 use mathlib.Core.Path.{_≡_, refl, sym, ap, _∙_}
 use mathlib.Core.Bool.{Bool, true, false, cond, not, _&&_}
 use mathlib.Core.List.{List, [], _∷_}
 use native.Mathlib.Omega.{arith}
 use native.Mathlib.Decide.{ℕ-discrete, decLt}
-use lib.Dec.{eqb, ltb}
+use lib.Dec.{eqb, leb, ltb}
 use lib.ListN.{length}
-use borrow.Author.Tests.{eq-eqb, ne-eqb, le-ltb, lt-ltb}
+use borrow.Author.Tests.{eq-eqb, ne-eqb, le-ltb, lt-ltb, le-leb, lt-leb}
 use Rattle.laws.specs.Choice.{else}
 use Rattle.transport.specs.declared.Kind.{Kind}
 use Rattle.transport.specs.declared.Kind.the-variants.{Rts, Bam}
@@ -26,6 +26,7 @@ use Rattle.transfer.specs.Sends.{sends, segmentWire, statusWire}
 use Rattle.isolation.specs.Replies.{Wire, ctsFrame, eomaFrame}
 use Rattle.delivery.specs.Link.{Setting, keyIn, queued, refusals, endsWell, answered, framesDue, heard, unlessEnded, keptAt, offer}
 use Rattle.delivery.specs.Arrival.{Fair, Unended, unsent, NothingIsDue}
+use Rattle.delivery.specs.Losses.{toSend}
 use Rattle.delivery.proofs.Wires.{few-segments, ctsWire, eomaWire, on-cts, on-eoma}
 use Rattle.delivery.proofs.Expected.{count, Goes, some-segments}
 
@@ -51,13 +52,6 @@ transferAt Rts s mark i g e = Open (openAt s mark i g e)
 transferAt Bam s mark i g false = Open (openAt s mark i g false)
 transferAt Bam s mark i g true = Closed
 
--- its offer is the one announced
-pub offered : (κ : Kind) (s : Setting) (mark i g : ℕ) (e : Bool) (t : Transfer) → transferAt κ s mark i g e ≡ Open t → t .offer ≡ offer s
-unfolding transferAt openAt
-offered Rts s mark i g e t h = cc
-offered Bam s mark i g false t h = cc
-offered Bam s mark i g true t h = absurd (let z : _≡_ {A = ℕ} 0 1 = cc in omega arith)
-
 abbrev pub firstGrant : Kind → Setting → ℕ
 firstGrant Rts s = 0
 firstGrant Bam s = count s
@@ -74,7 +68,7 @@ pub record Gives (s : Setting) (x : State) (last : ℕ) (fs : List Wire) (y : St
   pub leaves : after x (answered x last .change) ≡ y
   pub ends : endsWell (answered x last) ≡ w
 
-by-answer : (s : Setting) (x : State) (last : ℕ) (r : Step) → answered x last ≡ r
+pub by-answer : (s : Setting) (x : State) (last : ℕ) (r : Step) → answered x last ≡ r
     → Gives s x last (queued (sends (keyIn s) (s .message) (r .reply))) (after x (r .change)) (endsWell r)
 by-answer s x last r e = record {
   frames = ap (λ (q : Step). queued (sends (keyIn s) (s .message) (q .reply))) e;
@@ -90,7 +84,7 @@ isBam Bam = true
 abbrev pub endedAt : Kind → Bool → Bool
 endedAt κ e = e && isBam κ
 
-sends-next : (t : Transfer) (last : ℕ) → t .course .owed ≡ false → ltb (t .course .granted .0) (t .course .next .0) ≡ false
+pub sends-next : (t : Transfer) (last : ℕ) → t .course .owed ≡ false → ltb (t .course .granted .0) (t .course .next .0) ≡ false
     → nextFrame t last ≡ moves (afterSegment t last) (reply.Segment (t .course .next))
 unfolding nextFrame
 sends-next t last o l = sym (else (t .course .owed) _ _ _ o (else (ltb (t .course .granted .0) (t .course .next .0)) _ _ _ l refl))
@@ -252,3 +246,17 @@ unfolding unsent transferAt openAt courseAt
 unsent-at Rts s mark i g e h = let z : count s + 1 - (i + 1) ≡ count s - i = omega arith in rw z
 unsent-at Bam s mark i g false h = omega arith
 unsent-at Bam s mark i g true h = let z : i ≡ count s = h refl in omega arith
+
+-- as Losses weighs it
+
+pub send-ended : toSend Closed ≡ 0
+unfolding toSend
+send-ended = refl
+
+pub send-broadcast : (s : Setting) (mark i : ℕ) → i ≤ count s → toSend (transferAt Bam s mark i (count s) false) ≡ 3 * (count s - i) + 3
+unfolding toSend transferAt openAt courseAt
+send-broadcast s mark i l = go (ℕ-discrete i (count s))
+  where
+    go : Dec (i ≡ count s) → 3 * (count s + 1 - (i + 1)) + cond (leb (i + 1) (count s)) 3 0 + cond (eqb i (count s) && true) 3 0 ≡ 3 * (count s - i) + 3
+    go (yes e) = rw (lt-leb (i + 1) (count s) (omega arith), eq-eqb i (count s) e) (omega arith)
+    go (no e) = rw (le-leb (i + 1) (count s) (omega arith), ne-eqb i (count s) e) (omega arith)

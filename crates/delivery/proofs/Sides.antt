@@ -1,15 +1,15 @@
 -- What a call at the sender does to the transfer of its key, and that it leaves every other key alone.
-use Prim.Native.Nat.{ℕ, _<_}
+use Prim.Native.Nat.{ℕ, zero, suc, _<_}
 use mathlib.Core.Path.{_≡_, refl, sym, ap, _∙_, subst}
 use mathlib.Core.Logic.{_⊎_, inl, inr}
 use mathlib.Core.Bool.{Bool, true, false, cond, not, _&&_, _||_}
-use mathlib.Core.List.{List, [], _∷_}
+use mathlib.Core.List.{List, [], _∷_, _++_, map, append-nil}
 use native.Mathlib.Omega.{arith}
 use lib.Dec.{eqb, leb}
 use lib.ListN.{length}
 use borrow.Author.Tests.{eqb-false, not-true, not-false}
 use mathlib.Mathlib.Data.Bool.Basic.{and-elim-left, and-elim-right}
-use Rattle.laws.specs.Bools.{clash, not-both, both, by-test, passed, either-way}
+use Rattle.laws.specs.Bools.{clash, not-both, not-passed, both, by-test, passed, either-way, cond-true, cond-false}
 use Rattle.laws.specs.Choice.{each-of}
 use Rattle.frame.specs.declared.Address.{Address}
 use Rattle.frame.specs.declared.SessionNumber.{SessionNumber}
@@ -47,11 +47,15 @@ use Rattle.transfer.specs.Decisions.{after, refused, offerOf, forKey, announced
 use Rattle.sender_bytes.specs.Layout.{Sender, withTransfer}
 use Rattle.sender.specs.Transfers.{isFree, holds, firstFree, keyPlace, slotFor, stateIn, transfersOk, inBounds}
 use Rattle.sender.specs.Calls.{announces, asks, applied}
+use Rattle.sender.specs.Clock.{endOf}
 use Rattle.sender.specs.Model.{Stepped, stepped, keyOf, announceStep, askStep, byVerdict, frameStep, elapsed, readingStep}
+use Rattle.isolation.specs.Replies.{Wire}
 use Rattle.delivery.specs.Link.{keptAt}
+use Rattle.delivery.specs.Losses.{endingFrames, sentAt}
 use Rattle.delivery.specs.System.{stateFor}
 use Rattle.delivery.specs.Whole.{isResponse, respondsTo}
-use Rattle.delivery.proofs.Transfers.{at, known, Unique, AllOk, holds-self, only-for, find-some, find-none, known-held, known-none, transfers-ok, ok-all, ok-unique, Place, set-unique, set-ok, set-known, set-others, map-unique, map-ok, map-known}
+use Rattle.delivery.specs.WholeLosses.{endingFor, endingsFor}
+use Rattle.delivery.proofs.Transfers.{Transfers, at, known, Unique, AllOk, holds-self, only-for, find-some, find-none, known-held, known-none, transfers-ok, ok-all, ok-unique, Place, set-unique, set-ok, set-known, set-others, map-unique, map-ok, map-known}
 use Rattle.delivery.proofs.Kept.{Keeps, asked-kept, hears-kept, announced-kept, asked-shut, hears-shut, announced-full}
 
 -- ---- a record in bounds, by its places
@@ -394,3 +398,39 @@ reading-reads p e κ t =
       };
       here = map-known f refl (elapsed-stays (p .limit) t) (p .transfers) (h .uniq) κ ∙ elapsed-kept (p .limit) t (stateFor κ p);
     })
+
+-- ---- what a reading sends for a key: the ending of its own transfer
+
+module _ (κ : Key) (limit t : ℕ) where
+  abbrev sendsAt : Transfers → List Wire
+  sendsAt l = endingsFor κ (map (endOf limit t) l)
+
+  other-end : (x : State) → holds κ x ≡ false → endingFor κ (endOf limit t x) ≡ []
+  other-end Closed h = refl
+  other-end (Open x) h = either-way (λ e. endingFor κ e ≡ []) (isIdle limit (x .course .mark) t) (λ e. cond-false (sameKey (x .offer .key) κ) _ [] h) (λ e. refl)
+
+  own-end : (x : State) → holds κ x ≡ true → endingFor κ (endOf limit t x) ≡ sentAt limit t x
+  own-end Closed h = refl
+  own-end (Open x) h = either-way (λ e. endingFor κ e ≡ endingFrames e) (isIdle limit (x .course .mark) t) (λ e. cond-true (sameKey (x .offer .key) κ) _ [] h) (λ e. refl)
+
+  none-end : (l : Transfers) → ((i : ℕ) → holds κ (at l i) ≡ false) → sendsAt l ≡ []
+  none-end [] h = refl
+  none-end (x ∷ l) h = rw (other-end x (h 0)) (none-end l (λ i. h (suc i)))
+
+  one-ends : (l : Transfers) → Unique l → (i : ℕ) → holds κ (at l i) ≡ true → sendsAt l ≡ sentAt limit t (at l i)
+  one-ends [] u i h = absurd (clash false h refl)
+  one-ends (x ∷ l) u zero h =
+      ap (λ (fs : List Wire). endingFor κ (endOf limit t x) ++ fs)
+      (none-end l (λ i. not-passed (holds κ (at l i)) (λ g. let z : 0 ≡ suc i = u 0 (suc i) κ h g in omega arith)))
+      ∙ append-nil (endingFor κ (endOf limit t x)) ∙ own-end x h
+  one-ends (x ∷ l) u (suc i) h =
+      rw (other-end x (not-passed (holds κ x) (λ g. let z : 0 ≡ suc i = u 0 (suc i) κ g h in omega arith)))
+      (one-ends l (λ a b n p q. let z : suc a ≡ suc b = u (suc a) (suc b) n p q in omega arith) i h)
+
+pub reading-sends : (p : Sender) → inBounds p ≡ true → (κ : Key) (t : ℕ) → endingsFor κ (readingStep p t .0) ≡ sentAt (p .limit) t (stateFor κ p)
+unfolding readingStep
+reading-sends p e κ t = rw e (go (keyPlace κ (p .transfers)) refl)
+  where
+    go : (f : Found) → keyPlace κ (p .transfers) ≡ f → sendsAt κ (p .limit) t (p .transfers) ≡ sentAt (p .limit) t (stateIn f (p .transfers))
+    go Nothing z = none-end κ (p .limit) t (p .transfers) (find-none κ (p .transfers) z)
+    go (At i) z = one-ends κ (p .limit) t (p .transfers) (ready-of p e .uniq) i (find-some κ (p .transfers) i z .0)

@@ -1,6 +1,6 @@
 -- The stages of a transfer, and the link at each: the invariant.
 use Prim.Native.Nat.{ℕ, zero, suc, _+_, _-_, _*_, _≤_, _<_}
-use mathlib.Core.Path.{_≡_, refl, sym, ap, _∙_}
+use mathlib.Core.Path.{_≡_, refl, ap}
 use mathlib.Core.Logic.{_⊎_}
 use mathlib.Core.Bool.{Bool, true, false, cond}
 use mathlib.Core.Option.{Option, none, some}
@@ -9,9 +9,8 @@ use native.Mathlib.Omega.{arith}
 use lib.ListN.{length}
 use Rattle.transport.specs.declared.Kind.{Kind}
 use Rattle.transport.specs.declared.Kind.the-variants.{Rts, Bam}
-use Rattle.transfer.specs.declared.Transfer.{Transfer}
 use Rattle.transfer.specs.declared.State.{State}
-use Rattle.transfer.specs.declared.State.the-variants.{Closed, Open}
+use Rattle.transfer.specs.declared.State.the-variants.{Closed}
 use Rattle.transfer.specs.Sends.{offerWire, segmentWire, statusWire}
 use Rattle.isolation.specs.Replies.{Wire, Says}
 use Rattle.isolation.specs.Rules as rules
@@ -19,7 +18,7 @@ use Rattle.delivery.specs.Link.{Setting, keyIn, Link, offer}
 use Rattle.delivery.specs.Arrival.{unsent, measure}
 use Rattle.delivery.proofs.Wires.{ctsWire, eomaWire}
 use Rattle.delivery.proofs.Expected.{count, Goes, Silence, sessionAt, handedBy}
-use Rattle.delivery.proofs.Sending.{transferAt, offered, firstGrant, endedAt, Sent, unsent-at}
+use Rattle.delivery.proofs.Sending.{transferAt, firstGrant, endedAt, Sent, unsent-at}
 
 -- ---- on their way: segments j + 1 to j + n, then the EOMS if it has gone out
 
@@ -128,21 +127,6 @@ pub record Reached (s : Setting) (x : Link) : Type 0 where
   pub stands : Stands kind s stage
   pub marks : Marks
   pub same : x ≡ linkAt kind s stage marks
-
--- a transfer that is open is the one announced
-pub reached-offer : (s : Setting) (x : Link) → Reached s x → (t : Transfer) → x .transfer ≡ Open t → t .offer ≡ offer s
-unfolding shapeAt
-reached-offer s x h t e = go (h .stage) (sym (ap (λ (y : Link). y .transfer) (h .same)) ∙ e)
-  where
-    a : ℕ
-    a = h .marks .sendersMark
-
-    go : (stage : Stage) → shapeAt (h .kind) s a (h .marks .receiversMark) stage .transfer ≡ Open t → t .offer ≡ offer s
-    go (announcing n e) z = offered (h .kind) s a n (firstGrant (h .kind) s) e t z
-    go (granting j c) z = offered (h .kind) s a j j false t z
-    go (moving j n g e) z = offered (h .kind) s a (j + n) g e t z
-    go acknowledging z = offered (h .kind) s a (count s) (count s) true t z
-    go done z = absurd (let w : _≡_ {A = ℕ} 0 1 = cc in omega arith)
 
 -- ---- the measure at each stage
 

@@ -38,10 +38,10 @@ abbrev pub Step : Kind → Setting → Move → Stage → Marks → Type 0
 Step κ s v stage r = Moved κ s stage (step s (linkAt κ s stage r) v) (works s (linkAt κ s stage r) v)
 
 -- the sender's mark, and the receiver's, is its last reading; what the receiver took starts a wait
-abbrev sends : Marks → Marks
+abbrev pub sends : Marks → Marks
 sends r = record { sendersMark = r .sendersLast; sendersLast = r .sendersLast; receiversMark = r .receiversMark; receiversLast = r .receiversLast }
 
-abbrev takes : Wait → Marks → Marks
+abbrev pub takes : Wait → Marks → Marks
 takes wait r = record { sendersMark = r .sendersMark; sendersLast = r .sendersLast; receiversMark = from (r .receiversLast) wait; receiversLast = r .receiversLast }
 
 -- ---- asking

@@ -35,7 +35,6 @@ use Rattle.sender.specs.Transfers.{keyPlace, stateIn}
 use Rattle.receiver.specs.declared.Receiver.{Receiver}
 use Rattle.isolation.specs.Rules as rules
 use Rattle.isolation.specs.Rules.{Values, isOpen}
-use Rattle.isolation.specs.World.{World}
 use Rattle.isolation.specs.Stands.{standsFor}
 use Rattle.isolation.proofs.Opened.{any}
 use Rattle.isolation.proofs.Many.{Sim, own-small, open-any}
@@ -45,30 +44,35 @@ use Rattle.delivery.specs.Link.{Setting, keyIn, Link, queued, answered, 
 use Rattle.delivery.specs.Arrival as single
 use Rattle.delivery.specs.Arrival.{Fair}
 use Rattle.delivery.specs.System.{System, stateFor, Move, given, announcedBy, start, step, run}
-use Rattle.delivery.specs.Whole.{Starts, MeetsAt, Meets, works, measure, Arrives}
+use Rattle.delivery.specs.Whole.{Starts, MeetsAt, Meets, measure, Arrives}
+use Rattle.delivery.proofs.Wires.{reads-for, on-offer}
+use Rattle.delivery.proofs.Rights.{Rights}
+use Rattle.delivery.proofs.SafeSender.{Sending, sending-first}
 use Rattle.delivery.proofs.Transfers.{Transfers, AllOk}
 use Rattle.delivery.proofs.Stages.{Reached}
 use Rattle.delivery.proofs.Arrival.{reached-arrives, reached-step, reached-start}
 use Rattle.delivery.proofs.Sides.{Ready, ready-of, Accepts, accepted}
-use Rattle.delivery.proofs.Follows.{linkOf, Fits, Goes, stays, moves, Next, ask-called, follows}
+use Rattle.delivery.proofs.Follows.{linkOf, Stands, linkMove, moved, movedWorks, MovedCalm, meets-allows, ask-called, follows, works-as, calm-as}
 
--- the records are in bounds, and stand for a link that is reached
+-- the records stand for a link that is reached
 pub record Holds (s : Setting) (y : System) : Type 0 where
-  pub world : World
-  pub fits : Fits s y world
-  pub reached : Reached s (linkOf s y world)
+  pub link : Link
+  pub stands : Stands s y link
+  pub reached : Reached s link
 
 -- ---- a move
 
 module _ (s : Setting) (fair : Fair s) where
-  goes-reached : {x x′ : Link} {b : Bool} → Reached s x → Goes s x x′ b → Reached s x′
-  goes-reached r (stays e f) = subst (Reached s) (sym e) r
-  goes-reached {x} r (moves v calm e f) = subst (Reached s) (sym e) (reached-step s fair x r v calm)
+  moved-reached : (x : Link) → Reached s x → (u : Option link.Move) → MovedCalm s x u → Reached s (moved s x u)
+  moved-reached x r none calm = r
+  moved-reached x r (some u) calm = reached-step s fair x r u calm
 
   pub holds-step : (y : System) → Holds s y → (v : Move) → MeetsAt s y v → Holds s (step s y v)
-  holds-step y h v m =
-      let q : Next s y (h .world) (step s y v) (works s y v) = follows s fair y (h .world) (h .fits) (h .reached) v m in
-      record { world = q .world; fits = q .fits; reached = goes-reached (h .reached) (q .goes) }
+  holds-step y h v m = record {
+    link = moved s (h .link) (linkMove v);
+    stands = follows s fair y (h .link) (h .stands) v (meets-allows s y v m);
+    reached = moved-reached (h .link) (h .reached) (linkMove v) (calm-as s fair y (h .link) (h .stands) v m);
+  }
 
   pub holds-run : (vs : List Move) (y : System) → Holds s y → Meets s y vs → Holds s (run s y vs)
   unfolding run
@@ -80,9 +84,13 @@ module _ (s : Setting) (fair : Fair s) where
   abbrev Falls : Link → Link → Bool → Type 0
   Falls x x′ b = (b ≡ true → single.measure x′ < single.measure x) × (b ≡ false → single.measure x′ ≤ single.measure x)
 
-  goes-falls : {x x′ : Link} {b : Bool} → Reached s x → Goes s x x′ b → Falls x x′ b
-  goes-falls {b = b} r (stays e f) = ((λ t. absurd (clash b t f)), (λ t. rw e (omega arith)))
-  goes-falls {x} r (moves v calm e f) = rw (e, f) (reached-arrives s fair x r .falls v calm)
+  moved-falls : (x : Link) → Reached s x → (u : Option link.Move) → MovedCalm s x u → Falls x (moved s x u) (movedWorks s x u)
+  moved-falls x r none calm = ((λ t. absurd (clash false t refl)), (λ t. omega arith))
+  moved-falls x r (some u) calm = reached-arrives s fair x r .falls u calm
+
+  measured : (y : System) (x : Link) → Stands s y x → measure s y ≡ single.measure x
+  unfolding measure single.measure
+  measured y x h = ap single.measure (h .same)
 
   isRefusal : Reply → Bool
   isRefusal (reply.Announced o) = false
@@ -110,16 +118,16 @@ module _ (s : Setting) (fair : Fair s) where
   only-16 (Open t) last n e = absurd (clash (isRefusal (nextFrame t last .reply)) (ap isRefusal e) (next-answers t last))
 
   pub holds-arrives : (y : System) → Holds s y → Arrives s y
-  unfolding measure single.measure
-  holds-arrives y h =
-      let a : single.Arrives s (linkOf s y (h .world)) = reached-arrives s fair (linkOf s y (h .world)) (h .reached) in
-      record {
+  holds-arrives y h = subst (λ (x : Link). single.Arrives s x → Arrives s y) (h .stands .same) here (reached-arrives s fair (h .link) (h .reached))
+    where
+      here : single.Arrives s (linkOf s y (h .stands .world)) → Arrives s y
+      here a = record {
         unrefused = a .unrefused;
-        answered = λ n e. only-16 (stateFor (keyIn s) (y .sender)) (y .sender .last) n (sym (ask-called s fair y (h .world) (h .fits) (h .reached) .reply) ∙ e);
+        answered = λ n e. only-16 (stateFor (keyIn s) (y .sender)) (y .sender .last) n (sym (ask-called s fair y (h .stands .world) (h .stands .fits) .reply) ∙ e);
         once = a .once;
         falls = λ v m.
-            let q : Next s y (h .world) (step s y v) (works s y v) = follows s fair y (h .world) (h .fits) (h .reached) v m in
-            goes-falls (h .reached) (q .goes);
+            rw (measured y (h .link) (h .stands), measured (step s y v) (moved s (h .link) (linkMove v)) (follows s fair y (h .link) (h .stands) v (meets-allows s y v m)), works-as s fair y (h .link) (h .stands) v)
+            (moved-falls (h .link) (h .reached) (linkMove v) (calm-as s fair y (h .link) (h .stands) v m));
         arrived = λ r. a .arrived (record { forward = r .forward; backward = r .backward; nothing = r .nothing });
       }
 
@@ -174,19 +182,31 @@ module _ (s : Setting) (p : Sender) (r : Receiver) (m : List ℕ) (h : Starts s 
       go none e = refl
       go (some ρ) e = absurd (clash true refl e)
 
-  pub holds-start : Holds s (start s p r m)
+  pub stands-start : Stands s (start s p r m) (link.start s (announcedBy s p .1 .last) (r .last))
   unfolding start link.start
-  holds-start = record {
+  stands-start = record {
     world = standsFor r m;
-    fits = record { ready = ready; own = opens .own ∙ h .own; limit = opens .limit ∙ h .limit; sim = sim };
-    reached = subst (Reached s) (sym same) (reached-start s fair-start (q .last) (r .last));
+    fits = record {
+      ready = ready;
+      own = opens .own ∙ h .own;
+      limit = opens .limit ∙ h .limit;
+      sim = sim;
+      transfer = subst (Sending s) (sym (opens .here)) (sending-first s (q .last));
+      forth = subst (Rights s) (sym announcement) (rw (reads-for s _ _ (on-offer s fair-start)) (refl, tt));
+      back = tt;
+    };
+    same = rw (opens .here, announcement, closed);
   }
     where
       announcement : given s (announcedBy s p) ≡ offerWire (offer s) ∷ []
       announcement = ap (λ (a : Reply). queued (sends (keyIn s) (s .message) a)) (h .accepted)
 
-      same : linkOf s (start s p r m) (standsFor r m) ≡ link.start s (q .last) (r .last)
-      same = rw (opens .here, announcement, closed)
+  pub holds-start : Holds s (start s p r m)
+  holds-start = record {
+    link = link.start s (q .last) (r .last);
+    stands = stands-start;
+    reached = reached-start s fair-start (q .last) (r .last);
+  }
 
 -- From an accepted announcement on, whatever calls the two ends take that meet the premises: no frame of the transfer is refused, the
 -- message is handed over at most once and whole, every frame given or taken brings the end nearer, and at rest the message has been handed

@@ -12,6 +12,7 @@ use lib.ListN.{length, take, length-take, length-drop}
 use borrow.Author.Tests.{eq-eqb, ne-eqb, lt-ltb, le-ltb, lt-leb, ltb-true}
 use Rattle.laws.specs.Bools.{both}
 use Rattle.laws.specs.Choice.{else}
+use Rattle.frame.specs.declared.refusal.Refusal.{Refusal}
 use Rattle.frame.specs.declared.refusal.Refusal.the-variants.{NotTaken, TransferLength}
 use Rattle.frame.specs.declared.identifier.Identifier.{Identifier}
 use Rattle.frame.specs.Identifiers.{identifierOf}
@@ -21,25 +22,27 @@ use Rattle.frame.specs.Lengths.{frameLength}
 use Rattle.frame.specs.LengthLaws.{frame-least, frame-bounds}
 use Rattle.transport.specs.declared.control.Control as control-type
 use Rattle.transport.specs.declared.control.Control.the-variants as control
-use Rattle.transport.specs.Heads.{head, controlAt, idTo, toOriginator}
+use Rattle.transport.specs.Heads.{head, controlAt, idTo, toOriginator, toResponder}
 use Rattle.transport.specs.Announcements.{announcementAt, controlFor}
 use Rattle.transport.specs.declared.Kind.{Kind}
 use Rattle.transport.specs.declared.Kind.the-variants.{Rts, Bam}
 use Rattle.transport.specs.Eoms.{statusAt}
-use Rattle.transport.specs.Aborts.{roleAt, abortPgnAt}
+use Rattle.transport.specs.declared.abort.Role.the-variants.{Originator}
+use Rattle.transport.specs.Aborts.{roleAt, abortPgnAt, abortBytes}
 use Rattle.transport.specs.Segments.{formatAt, numberAt, dataAt, segmentBytes}
 use Rattle.transport.specs.Control.{notReceivers, controlOf}
 use Rattle.transport.specs.Responses.{responseId, responseBytes, responseOf}
-use Rattle.transport.specs.ReadBack.{Three, low24-read-back, KeyFits, fieldsTo, id-read-back, readOf, read-back, announcement-read-back, status-read-back, segment-long, data-read-back}
+use Rattle.transport.specs.ReadBack.{Three, low24-read-back, KeyFits, fieldsTo, id-read-back, readOf, read-back, announcement-read-back, status-read-back, abort-read-back, segment-long, data-read-back}
 use Rattle.session.specs.Segments.{dueOf}
 use Rattle.transfer.specs.Transfers.{segmentsOf, announcementOf, statusOf}
 use Rattle.transfer.specs.declared.State.{State}
-use Rattle.transfer.specs.Decisions.{hears}
-use Rattle.transfer.specs.Sends.{pieceOf, offerWire, segmentWire, statusWire}
-use Rattle.isolation.specs.Standard.{fdLengths, isOneOf}
+use Rattle.transfer.specs.Decisions.{endingOf, hears}
+use Rattle.transfer.specs.Sends.{pieceOf, offerWire, segmentWire, statusWire, abortFor}
+use Rattle.isolation.specs.Standard.{Cause, fdLengths, isOneOf}
 use Rattle.isolation.specs.OwnFrames.{frameKey, Body, announce, segment, status, abort, controlBody, dataBody, taken, bodyOf}
-use Rattle.isolation.proofs.Same.{length-same}
-use Rattle.isolation.specs.Replies.{Wire, ctsFrame, eomaFrame}
+use Rattle.isolation.specs.Rules.{due}
+use Rattle.isolation.proofs.Same.{length-same, due-same}
+use Rattle.isolation.specs.Replies.{Wire, abortFrame, ctsFrame, eomaFrame}
 use Rattle.delivery.specs.Link.{Setting, keyIn, offer, bodyFor, keyNumber, ifFor, heard}
 use Rattle.delivery.specs.Arrival.{Fair}
 
@@ -101,7 +104,7 @@ abbrev idFrom : Setting → ℕ → ℕ
 idFrom s pf = idTo pf (keyIn s .da) (keyIn s .sa)
 
 module _ (s : Setting) (fair : Fair s) where
-  key-fits : KeyFits (keyIn s)
+  pub key-fits : KeyFits (keyIn s)
   key-fits = let a : s .key / 4096 < 254 = fair .sender in record { sa = omega arith; da = omega arith; session = omega arith }
 
   id-here : (pf : ℕ) → pf < 256
@@ -196,6 +199,12 @@ module _ (s : Setting) (fair : Fair s) where
       control-reads 2 _ (status (statusOf (offer s))) (omega arith) refl
       (ap bodyIn (status-read-back (keyIn s) key-fits (statusOf (offer s)) three-total three-segments three-pgn))
 
+  -- and that the transfer was given up, with n
+  pub on-ending : (n : Refusal) → Reads s (toResponder (keyIn s), abortBytes Originator (abortFor (endingOf (offer s) n))) (abort (s .pgn))
+  on-ending n =
+      control-reads 15 _ (abort (s .pgn)) (omega arith) refl
+      (ap bodyIn (abort-read-back (abortFor (endingOf (offer s) n)) key-fits three-pgn))
+
   -- segment n, with what fills its frame up
   abbrev pub frameOf : ℕ → List ℕ
   frameOf n = segmentWire (keyIn s) (s .message) n .1
@@ -247,6 +256,10 @@ module _ (s : Setting) (fair : Fair s) where
         ap (λ (c : ℕ). take c (dataAt (frameOf n))) (sym (length-piece (s .message) n))
         ∙ data-read-back (keyIn s) key-fits n three-number (pieceOf (s .message) n) (piece-bounds .0) (piece-bounds .1)
 
+    -- as the rules take it
+    pub data-taken : take (due (length (s .message)) n) (dataAt (frameOf n)) ≡ pieceOf (s .message) n
+    data-taken = rw (due-same (length (s .message)) n first) data-whole
+
     pub data-long : dueOf (length (s .message)) n ≤ length (dataAt (frameOf n))
     data-long =
         let h : 4 + length (pieceOf (s .message) n) ≤ length (frameOf n) = longer in
@@ -261,6 +274,10 @@ ctsWire s n c = (responseId (ctsFrame (s .key) n c (s .pgn)), responseBytes (cts
 
 abbrev pub eomaWire : Setting → Wire
 eomaWire s = (responseId (eomaFrame (s .key) (announcementOf (offer s))), responseBytes (eomaFrame (s .key) (announcementOf (offer s))))
+
+-- by its cause
+abbrev pub abortWire : Setting → Cause → Wire
+abortWire s c = (responseId (abortFrame (s .key) c (s .pgn)), responseBytes (abortFrame (s .key) c (s .pgn)))
 
 module _ (s : Setting) (fair : Fair s) where
   own-number : keyNumber (keyIn s) ≡ s .key
@@ -280,6 +297,13 @@ module _ (s : Setting) (fair : Fair s) where
   pub on-eoma : (x : State) (last : ℕ) → heard s x last (eomaWire s) ≡ hears x (readOf (eomaFrame (s .key) (announcementOf (offer s)))) last
   unfolding heard
   on-eoma x last = ap (ifFor (s .key) x last) eoma-read ∙ rw (eq-eqb (keyNumber (keyIn s)) (s .key) own-number)
+
+  pub abort-read : (c : Cause) → responseOf (routeOf (identifierOf (abortWire s c .0))) (abortWire s c .1) ≡ readOf (abortFrame (s .key) c (s .pgn))
+  abort-read c = read-back (abortFrame (s .key) c (s .pgn)) (key-fits s fair, three-pgn s fair) .0
+
+  pub on-abort : (x : State) (last : ℕ) (c : Cause) → heard s x last (abortWire s c) ≡ hears x (readOf (abortFrame (s .key) c (s .pgn))) last
+  unfolding heard
+  on-abort x last c = ap (ifFor (s .key) x last) (abort-read c) ∙ rw (eq-eqb (keyNumber (keyIn s)) (s .key) own-number)
 
   -- a response of 12 bytes is a control frame to the sender
   pub response-judged : keyIn s .da .0 ≡ s .values .own .0

@@ -117,7 +117,7 @@ module _ (m : List ℕ) (whole : length m ≡ 32768) (r : Receiver) (eight : len
       lies f (for-within k (r .slots) 8 eight) (stateIn f (r .slots)) refl (announceStep r k a .answer) (announce-hands (stateIn f (r .slots)) (isAt f) (slotOf f) k a (r .last))
   control-fine (control.EndOfMessage st) k =
       let f : Found = slotFor k (r .slots) in
-      lies f (for-within k (r .slots) 8 eight) (stateIn f (r .slots)) refl (statusStep r k st .answer) (status-hands (stateIn f (r .slots)) (slotOf f) st)
+      lies f (for-within k (r .slots) 8 eight) (stateIn f (r .slots)) refl (statusStep r k st .answer) (status-hands (stateIn f (r .slots)) (slotOf f) st (r .last))
   control-fine (control.Abort pgn) k =
       let f : Found = slotFor k (r .slots) in
       lies f (for-within k (r .slots) 8 eight) (stateIn f (r .slots)) refl (abortStep r k pgn .answer) (abort-hands (stateIn f (r .slots)) (slotOf f) pgn)

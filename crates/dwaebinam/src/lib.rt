@@ -3,6 +3,7 @@ pub mod both;
 pub mod export;
 pub mod groups;
 pub mod message;
+pub mod missing;
 pub mod pack;
 pub mod reading;
 pub mod sending;

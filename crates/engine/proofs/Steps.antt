@@ -20,7 +20,7 @@ use Rattle.session.specs.declared.Change.the-variants.{Stays, Opens, Moves, End
 use Rattle.session.specs.declared.Step.{Step}
 use Rattle.session.specs.Bounds.{announcedOk, keyOk, progressOk}
 use Rattle.session.specs.Decisions.{segmentTo, refused}
-use Rattle.session.specs.Laws.{announced-agreed, takes-in-turn, taken-inside}
+use Rattle.session.specs.Laws.{announced-agreed, takes-taking, taken-inside}
 use Rattle.session.specs.Steps.{MeetsOpen, moves-takes}
 use Rattle.slots.specs.declared.Found.{Found}
 use Rattle.slots.specs.declared.Found.the-variants.{At, Nothing}
@@ -76,9 +76,9 @@ module _ (r : Receiver) (f : Found) (sg : Segment) (last : ℕ) (d : List ℕ) (
   placed s p q m =
       let t = moves-takes sg last s p m in
       let a = announced-agreed (s .announced) (found-announced r f s e q) in
-      let turn = takes-in-turn s (sg .number .0) (sg .room) t in
+      let taking = takes-taking s (sg .number .0) (sg .room) t in
       let in-message = taken-inside s (sg .number .0) (sg .room) a t in
-      record { low = turn .low; inside = omega (arith, a .fits); enough = omega (arith, turn .enough) }
+      record { low = taking .low; inside = omega (arith, a .fits); enough = omega (arith, taking .enough) }
 
   pub placed-by : (x : State) (st : Step) → x ≡ stateIn f (r .slots) → st ≡ segmentTo x sg last → PlacedBy (st .change) x (sg .number .0) d
   placed-by x st ex es = go x (st .change) ex (ap (λ (z : Step). z .change) (sym es))

@@ -1,3 +1,4 @@
 pub mod InBytes
 pub mod Placed
 pub mod Elapsing
+pub mod Missing

@@ -45,14 +45,14 @@ fn announce(buffer: &mut [u8], k: Key, a: Announcement) -> Answer
     apply(buffer, f, step)
 }
 
-// An EOMS of the key.
+// An EOMS of the key; a session that asks for missing segments is marked with the last reading.
 fn status(buffer: &mut [u8], k: Key, st: Status) -> Answer
     requires { ⌜ (length (now buffer) ≡ recordLength) × Holds (now buffer) ⌝ }
     ensures { λ x. ⌜ (x, now (buffer .exit)) ≡ steppedIn (now (buffer .entry)) (statusStep (recordAt (now (buffer .entry))) k st) ⌝ }
 {
     let f = slot_for(buffer, k);
     let x = state_in(buffer, f);
-    let step = end::status(x, slot_of(f), st);
+    let step = end::status(x, slot_of(f), st, word_at(buffer, LAST_AT));
     apply(buffer, f, step)
 }
 

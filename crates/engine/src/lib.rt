@@ -2,5 +2,6 @@
 pub mod apply;
 pub mod call;
 pub mod control;
+pub mod missing;
 pub mod reading;
 pub mod segment;

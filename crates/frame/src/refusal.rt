@@ -1,6 +1,6 @@
 // The numbered refusals (01, "Numbered refusals"; 02).
 ghost use mathlib.Core.Path.{_≡_};
-ghost use Rattle.frame.specs.Refusals.{numberOf};
+ghost use Rattle.frame.specs.Refusals.{placeOf, numberOf, spentOf};
 
 pub enum Refusal {
     // 1: a length that CAN FD does not have
@@ -39,11 +39,11 @@ pub enum Refusal {
     FormatIndicator,
     // 18: segment 0, or one already taken
     AlreadyTaken,
-    // 19: a segment beyond the next one or beyond the count
+    // 19: a segment beyond the count, or in a BAM beyond the next one
     OutOfSequence,
     // 20: a data frame too short for the data due
     SegmentCut,
-    // 21: an end of message status that is not as announced, or comes too early
+    // 21: an end of message status that is not as announced, or that comes too early in a BAM
     StatusMismatch,
     // 22: silence for the idle limit
     Silence,
@@ -57,11 +57,13 @@ pub enum Refusal {
     MessageLength,
     // 27: a CTS for a segment that the message does not have
     GrantRange,
+    // 21 too: a status that comes too early in an RTS session, whose requests are spent
+    RequestsSpent,
 }
 
-// The number of a refusal in 01 and 02.
-pub fn number(r: Refusal) -> u8
-    ensures { λ n. ⌜ n ≡ numberOf r ⌝ }
+// The place of a refusal in the list above, from 1. Every number but that of the last is its place, and a place compiles to an addition.
+fn place(r: Refusal) -> u8
+    ensures { λ n. ⌜ n ≡ placeOf r ⌝ }
 {
     match r {
         Refusal::FrameLength => 1,
@@ -91,5 +93,21 @@ pub fn number(r: Refusal) -> u8
         Refusal::TransfersFull => 25,
         Refusal::MessageLength => 26,
         Refusal::GrantRange => 27,
+        Refusal::RequestsSpent => 28,
     }
+}
+
+// The number of a refusal in 01 and 02.
+pub fn number(r: Refusal) -> u8
+    ensures { λ n. ⌜ n ≡ numberOf r ⌝ }
+{
+    let at = place(r);
+    if at == 28 { 21 } else { at }
+}
+
+// Which of the two refusals of number 21 it is: 1 for spent requests, 0 for every other refusal.
+pub fn spent(r: Refusal) -> u8
+    ensures { λ n. ⌜ n ≡ spentOf r ⌝ }
+{
+    if place(r) == 28 { 1 } else { 0 }
 }

@@ -46,8 +46,8 @@ use Rattle.session.specs.declared.announcement.Form.{Form}
 use Rattle.session.specs.declared.announcement.Form.the-variants as form
 use Rattle.session.specs.declared.segment.Judged.{Judged}
 use Rattle.session.specs.Announcements.{misdirected, badNumbers, formOf, firstCts}
-use Rattle.session.specs.Segments.{dueOf, judgedOf, nextCts}
-use Rattle.session.specs.Ends.{statusMatches}
+use Rattle.session.specs.Segments.{dueOf, alreadyIn, outOfTurn, judgedOf, nextCts}
+use Rattle.session.specs.Cases.{by-status}
 use Rattle.session.specs.Decisions.{ifOpen, rejection, acceptedIf, isRestart, onForm, announcedTo, onJudged, segmentOpen, segmentTo, statusTo, abortTo}
 use Rattle.receiver.specs.declared.Receiver.{Receiver}
 use Rattle.receiver.specs.Calls.{Outcome, refused, announceStep, statusStep, abortStep, controlStep, onControl, segmentStep, onData, isReady, groupsStep, onVerdict, frameAll}
@@ -110,8 +110,8 @@ late-judged s n last false j k e f = f
 judged-late : (s : Session) (n room last : ℕ) → Late (onJudged (judgedOf s n room) s n last .answer)
 unfolding judgedOf isLater isOneOf
 judged-late s n room last =
-    late-judged s n last (eqb n 0 || ltb n (s .progress .next .0)) _ _ refl
-    (late-judged s n last (ltb (s .progress .next .0) n || ltb (s .announced .segments .0) n) _ _ refl
+    late-judged s n last (eqb n 0 || alreadyIn s n) _ _ refl
+    (late-judged s n last (outOfTurn s n || ltb (s .announced .segments .0) n) _ _ refl
     (late-judged s n last (ltb room (dueOf (s .announced .total .0) n)) _ _ refl
     (late (ctsDue (s .progress) (s .announced) n) (answer.Grant (nextCts (s .announced) n)) (answer.Taken (record { key = s .announced .key; number = record { 0 = n } })) refl refl)))
 
@@ -123,10 +123,10 @@ segment-late x sg last = late-step (not (eqb (sg .format) 0)) _ _ refl (go x)
     go Closed = refl
     go (Open s) = judged-late s (sg .number .0) (sg .room) last
 
-status-late : (x : State) (slot : ℕ) (st : Status) → Late (statusTo x slot st .answer)
+status-late : (x : State) (slot : ℕ) (st : Status) (last : ℕ) → Late (statusTo x slot st last .answer)
 unfolding statusTo isLater isOneOf
-status-late Closed slot st = refl
-status-late (Open s) slot st = late-step (statusMatches s st) _ _ refl refl
+status-late Closed slot st last = refl
+status-late (Open s) slot st last = by-status (λ (r : Step). Late (r .answer)) s slot st last refl (λ _ _. refl) (λ _ _ _. refl) refl
 
 abort-late : (x : State) (pgn : ℕ) → Late (abortTo x pgn .answer)
 unfolding abortTo isLater isOneOf
@@ -188,7 +188,7 @@ module _ (r : Receiver) (d m : List ℕ) where
       go true b s x = no-fault _ (announce-late _ _ κ _ (r .last))
       go false true true x = no-fault _ (announce-late _ _ κ _ (r .last))
       go false true false x = no-fault _ (announce-late _ _ κ _ (r .last))
-      go false false true x = no-fault _ (status-late _ _ _)
+      go false false true x = no-fault _ (status-late _ _ _ _)
       go false false false true = no-fault _ (abort-late _ _)
       go false false false false = subst (λ (n : ℕ). Told r m n (refused r (notReceivers d), m)) senders-number (at-fault (notReceivers d))
 

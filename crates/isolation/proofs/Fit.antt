@@ -1,12 +1,12 @@
 -- How a call of the receiver and the rules of one key keep step: first as one session decides, then with its change applied to its slot.
-use Prim.Native.Nat.{ℕ, _+_, _<_}
+use Prim.Native.Nat.{ℕ, _≤_, _<_}
 use mathlib.Core.Path.{_≡_, refl, sym}
 use mathlib.Core.Logic.{_⊎_, inl, inr}
-use mathlib.Core.Bool.{Bool, true, false, cond}
+use mathlib.Core.Bool.{Bool, true, false, cond, not}
 use mathlib.Core.Option.{Option, none, some}
 use mathlib.Core.List.{List}
 use native.Mathlib.Omega.{arith}
-use lib.ListN.{length}
+use Rattle.segments.specs.declared.Segments.{Segments}
 use Rattle.transport.specs.declared.response.Response.{Response}
 use Rattle.answer.specs.declared.Answer.{Answer}
 use Rattle.answer.specs.Answers.{wireOf}
@@ -16,6 +16,7 @@ use Rattle.session.specs.declared.State.the-variants as is
 use Rattle.session.specs.declared.Change.{Change}
 use Rattle.session.specs.declared.Change.the-variants as change
 use Rattle.session.specs.declared.Step.{Step}
+use Rattle.session.specs.Segments.{alreadyIn}
 use Rattle.session.specs.Bounds.{sessionOk}
 use Rattle.session.specs.Decisions.{after}
 use Rattle.slots.specs.declared.Found.{Found}
@@ -25,15 +26,21 @@ use Rattle.receiver.specs.declared.Receiver.{Receiver}
 use Rattle.receiver.specs.Calls.{Outcome, withSlot, apply}
 use Rattle.isolation.specs.OwnFrames.{keyAt}
 use Rattle.isolation.specs.Replies.{Reply, sent}
-use Rattle.isolation.specs.Rules.{Values, Open, Out}
+use Rattle.isolation.specs.Rules.{Values, Open, Out, isTaken}
 use Rattle.isolation.specs.Observe.{replyOf, touches}
 use Rattle.isolation.proofs.Slots.{Slots, at, holds}
 use Rattle.isolation.proofs.Bytes.{part, Within}
-use Rattle.isolation.proofs.Pieces.{cut}
+use Rattle.isolation.proofs.Gathered.{Gathered}
+
+-- what a session keeps of the data taken: a BAM the next segment, an RTS a record and the number missing. The other kind's may be anything
+pub record Kept : Type 0 where
+  pub next : ℕ
+  pub taken : Segments
+  pub missing : ℕ
 
 -- the record of a session of which the rules have ρ
-abbrev pub recordOf : ℕ → Open → Session
-recordOf k ρ =
+abbrev pub recordOf : ℕ → Open → Kept → Session
+recordOf k ρ x =
     record {
       announced = record {
         key = keyAt k;
@@ -44,25 +51,31 @@ recordOf k ρ =
         pgn = ρ .told .pgn;
       };
       progress = record {
-        next = record { 0 = length (ρ .pieces) + 1 };
+        next = record { 0 = x .next };
+        taken = x .taken;
+        missing = x .missing;
+        requests = ρ .requests;
         granted = record { 0 = ρ .granted };
         mark = ρ .mark;
         wait = ρ .wait;
       };
     }
 
--- the slot's bytes say what the rules have
-pub record Rel (v : Values) (k : ℕ) (p : List ℕ) (ρ : Open) : Type 0 where
-  pub pieces : ρ .pieces ≡ cut (ρ .told .total .0) (length (ρ .pieces)) p
+-- what is kept and the slot's bytes say what the rules have
+pub record Rel (v : Values) (k : ℕ) (p : List ℕ) (ρ : Open) (x : Kept) : Type 0 where
+  -- the data taken are segments of the message, none twice, each as the slot has it
+  pub pieces : Gathered (ρ .told .total .0) (ρ .told .segments .0) p (ρ .pieces)
+  -- and those that the session knows as taken
+  pub same : (n : ℕ) → 1 ≤ n → isTaken n (ρ .pieces) ≡ alreadyIn (recordOf k ρ x) n
   pub plain : ρ .told .assurance ≡ 0
-  pub fine : sessionOk (v .own) (recordOf k ρ) ≡ true
+  pub fine : sessionOk (v .own) (recordOf k ρ x) ≡ true
 
 -- a slot's state and bytes, and the rules' session of key k
 abbrev pub Ses : Values → ℕ → State → List ℕ → Option Open → Type 0
 Ses v k is.Closed p none = Unit {0}
 Ses v k is.Closed p (some ρ) = ⊥
 Ses v k (is.Open s) p none = ⊥
-Ses v k (is.Open s) p (some ρ) = (s ≡ recordOf k ρ) × Rel v k p ρ
+Ses v k (is.Open s) p (some ρ) = (x : Kept) × (s ≡ recordOf k ρ x) × Rel v k p ρ x
 
 -- slot i is the key's or free, and no other slot is the key's
 abbrev pub Place : Slots → ℕ → ℕ → Type 0
@@ -152,6 +165,12 @@ pub walk : {A B : Type 0} (P : A → B → Type 0) {a b : A} {q q′ : B} (t t�
     → P (cond t a b) (cond t′ q q′)
 walk P true t′ e f g = rw e (f refl)
 walk P false t′ e f g = rw e (g refl)
+
+-- the one side tests for what the other tests against
+pub walk-not : {A B : Type 0} (P : A → B → Type 0) {a b : A} {q q′ : B} (t t′ : Bool) → t′ ≡ not t → (t ≡ true → P a q) → (t ≡ false → P b q′)
+    → P (cond t a b) (cond t′ q′ q)
+walk-not P true t′ e f g = rw e (f refl)
+walk-not P false t′ e f g = rw e (g refl)
 
 -- ---- answers by a test
 

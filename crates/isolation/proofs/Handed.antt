@@ -103,7 +103,7 @@ segment-quiet y sg last = go (not (eqb (sg .format) 0)) y
 asked-hands : (y : State) (room : Bool) (slot last : ℕ) (κ : Key) (b : Body) → Hands y slot (asked y room slot last κ b .answer)
 asked-hands y room slot last κ (announce a) = announce-hands y room slot κ a last
 asked-hands y room slot last κ (segment format n x) = segment-hands y slot (record { format = format; number = record { 0 = n }; room = length x }) last
-asked-hands y room slot last κ (status st) = status-hands y slot st
+asked-hands y room slot last κ (status st) = status-hands y slot st last
 asked-hands y room slot last κ (abort pgn) = abort-hands y slot pgn
 
 module _ (r : Receiver) (k : ℕ) (m d : List ℕ) (x : Message) where

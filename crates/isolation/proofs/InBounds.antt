@@ -1,18 +1,23 @@
 -- A record that keeps step is in bounds, and every record in bounds is one that some world of rules explains.
-use Prim.Native.Nat.{ℕ, zero, suc, _+_, _*_, _-_, _/_, _≤_}
+use Prim.Native.Nat.{ℕ, zero, suc, _+_, _*_, _-_, _/_, _≤_, _<_}
 use mathlib.Core.Path.{_≡_, refl, sym, ap, ap₂, _∙_, subst}
-use mathlib.Core.Bool.{Bool, true, false, not, _&&_, _||_}
+use mathlib.Core.Bool.{Bool, true, false, cond, not, _&&_, _||_, and-false}
 use mathlib.Core.Option.{none, some}
 use mathlib.Core.List.{List, [], _∷_}
 use native.Mathlib.Omega.{arith}
+use native.Mathlib.Decide.{ℕ-discrete}
+use lib.Dec.{eqb, leb}
 use lib.ListN.{length, take, drop}
 use lib.Seq.{take-take, drop-drop}
-use borrow.Author.Tests.{not-true}
+use borrow.Author.Tests.{eq-eqb, ne-eqb, leb-true, leb-false, le-leb, lt-leb, le-ltb, not-true}
+use Rattle.laws.specs.Bools.{by-test, cond-true, cond-false}
 use Rattle.laws.specs.Windows.{drop-take}
+use Rattle.segments.specs.Laws.{none-past-in, agreed}
 use Rattle.frame.specs.declared.Address.{Address}
+use Rattle.transport.specs.Kinds.{isRts}
 use Rattle.transport.specs.declared.Key.{Key}
 use Rattle.session.specs.declared.Session.{Session}
-use Rattle.session.specs.Segments.{dueOf}
+use Rattle.session.specs.Segments.{dueOf, alreadyIn}
 use Rattle.receiver.specs.declared.Receiver.{Receiver}
 use Rattle.slots.specs.declared.Slot.{Slot}
 use Rattle.session.specs.declared.State.{State}
@@ -25,16 +30,17 @@ use Rattle.session.specs.InBounds.{Sound, sound-of}
 use Rattle.slots.specs.Bounds.{valuesOk, slotOk, anyHolds, stateTwin, twinOf, slotsOk}
 use Rattle.receiver.specs.Bounds.{inBounds}
 use Rattle.isolation.specs.OwnFrames.{keyAt}
-use Rattle.isolation.specs.Rules.{Values, Open, Piece}
+use Rattle.isolation.specs.Rules.{Values, Open, Piece, isTaken, due}
 use Rattle.isolation.specs.World.{World}
 use Rattle.isolation.specs.Observe.{openIn}
 use Rattle.isolation.specs.Stands.{valuesOf, piecesOf, openOf, standsFor}
-use Rattle.isolation.proofs.Tests.{or-false, clash, and-left, and-right, both}
+use Rattle.isolation.proofs.Tests.{or-false, clash, and-left, and-right, both, same-test}
 use Rattle.isolation.proofs.Slots.{Slots, at, holds, holds-same, holds-free, open-key, keys-same, keyNumber, key-of, find-some, find-none, Unique}
 use Rattle.isolation.proofs.Bytes.{part}
 use Rattle.isolation.proofs.Opened.{any, any-from, any-none, Bounded}
 use Rattle.isolation.proofs.Same.{due-same}
-use Rattle.isolation.proofs.Pieces.{window, cut, length-cut, segment-inside}
+use Rattle.isolation.proofs.Pieces.{window, segment-inside}
+use Rattle.isolation.proofs.Gathered.{Gathered}
 use Rattle.isolation.proofs.Fit.{Ses}
 use Rattle.isolation.proofs.Many.{Sim, own-small, state-bounded}
 
@@ -114,27 +120,67 @@ window-part i m a n h =
     ∙ ap (take n) (sym (drop-take a (4096 - a) (drop (4096 * i) m)))
     ∙ ap (λ (z : ℕ). take n (drop a (take z (drop (4096 * i) m)))) e
 
-pieces-cut : (i : ℕ) (m : List ℕ) (total segments n : ℕ) → total ≤ 4096 → segments ≡ (total + 59) / 60 → n ≤ segments → piecesOf i m total n ≡ cut total n (part i m)
-unfolding piecesOf cut
-pieces-cut i m total segments zero h s u = refl
-pieces-cut i m total segments (suc n) h s u =
-    let g : suc n - 1 ≡ n = omega arith in
-    let inside : 60 * (suc n - 1) + dueOf total (suc n) ≤ total = segment-inside total segments (suc n) s (omega arith) u in
-    let fits : 60 * n + dueOf total (suc n) ≤ 4096 = (let z : 60 * n + dueOf total (suc n) ≤ total = rw g at inside in omega arith) in
-    ap₂ (λ (b : List ℕ) (t : List Piece). record { number = suc n; bytes = b } ∷ t)
-    (rw (due-same total (suc n) (omega arith), g) (window-part i m (60 * n) (dueOf total (suc n)) fits))
-    (pieces-cut i m total segments n h s (omega arith))
+module _ (f : ℕ → Bool) (i : ℕ) (m : List ℕ) (total segments : ℕ) (most : total ≤ 4096) (count : segments ≡ (total + 59) / 60) where
+  taken-of : (c n : ℕ) → 1 ≤ n → isTaken n (piecesOf f i m total c) ≡ (leb n c && f n)
+  unfolding piecesOf isTaken
+  taken-of zero n l = ap (λ (t : Bool). t && f n) (sym (lt-leb n 0 l))
+  taken-of (suc c) n l = go (f (suc c)) refl (ℕ-discrete (suc c) n) (taken-of c n l)
+    where
+      past : (suc c ≡ n → ⊥) → leb n (suc c) ≡ leb n c
+      past z = same-test (leb n (suc c)) (leb n c)
+          (λ e. let h : n ≤ suc c = leb-true n (suc c) e in le-leb n c (omega arith))
+          (λ e. let h : n ≤ c = leb-true n c e in le-leb n (suc c) (omega arith))
 
-same-record : (s : Session) (k n : ℕ) → s .announced .key ≡ keyAt k → s .progress .next .0 ≡ n
-    → s ≡ record {
-      announced = record { key = keyAt k; kind = s .announced .kind; total = s .announced .total; segments = s .announced .segments; max = s .announced .max; pgn = s .announced .pgn };
-      progress = record { next = record { 0 = n }; granted = s .progress .granted; mark = s .progress .mark; wait = s .progress .wait };
-    }
-same-record s k n e f =
-    ap₂ (λ (x : Key) (y : ℕ). record {
-      announced = record { key = x; kind = s .announced .kind; total = s .announced .total; segments = s .announced .segments; max = s .announced .max; pgn = s .announced .pgn };
-      progress = record { next = record { 0 = y }; granted = s .progress .granted; mark = s .progress .mark; wait = s .progress .wait };
-    }) e f
+      none-below : (t : Bool) → isTaken n (piecesOf f i m total c) ≡ (leb n c && t) → suc c ≡ n → isTaken n (piecesOf f i m total c) ≡ false
+      none-below t e z = e ∙ ap (λ (b : Bool). b && t) (lt-leb n c (omega arith))
+
+      go : (t : Bool) → f (suc c) ≡ t → Dec (suc c ≡ n) → isTaken n (piecesOf f i m total c) ≡ (leb n c && f n)
+          → isTaken n (cond t (record { number = suc c; bytes = take (due total (suc c)) (drop (4096 * i + 60 * c) m) } ∷ piecesOf f i m total c) (piecesOf f i m total c)) ≡ (leb n (suc c) && f n)
+      go true e (yes z) ih = rw (eq-eqb (suc c) n z, ← z, le-leb (suc c) (suc c) (omega arith), e)
+      go true e (no z) ih = rw (ne-eqb (suc c) n z, past z) ih
+      go false e (yes z) ih = none-below (f n) ih z ∙ sym (ap (λ (b : Bool). leb n (suc c) && b) (ap f (sym z) ∙ e) ∙ and-false (leb n (suc c)))
+      go false e (no z) ih = rw (past z) ih
+
+  gathered-of : (c : ℕ) → c ≤ segments → Gathered total segments (part i m) (piecesOf f i m total c)
+  unfolding piecesOf
+  gathered-of zero u = tt
+  gathered-of (suc c) u = go (f (suc c)) (gathered-of c (omega arith))
+    where
+      g : suc c - 1 ≡ c
+      g = omega arith
+
+      fits : 60 * (suc c - 1) + dueOf total (suc c) ≤ 4096
+      fits = let z : 60 * (suc c - 1) + dueOf total (suc c) ≤ total = segment-inside total segments (suc c) count (omega arith) u in omega arith
+
+      here : take (due total (suc c)) (drop (4096 * i + 60 * c) m) ≡ window total (part i m) (suc c)
+      here =
+          ap (λ (n : ℕ). take (due total (suc c)) (drop (4096 * i + 60 * n) m)) (sym g)
+          ∙ ap (λ (n : ℕ). take n (drop (4096 * i + 60 * (suc c - 1)) m)) (due-same total (suc c) (omega arith))
+          ∙ window-part i m (60 * (suc c - 1)) (dueOf total (suc c)) fits
+
+      go : (t : Bool) → Gathered total segments (part i m) (piecesOf f i m total c)
+          → Gathered total segments (part i m) (cond t (record { number = suc c; bytes = take (due total (suc c)) (drop (4096 * i + 60 * c) m) } ∷ piecesOf f i m total c) (piecesOf f i m total c))
+      go true h = (omega arith, u, taken-of c (suc c) (omega arith) ∙ ap (λ (t : Bool). t && f (suc c)) (lt-leb (suc c) c (omega arith)), here, h)
+      go false h = h
+
+-- what a session knows as taken lies in the message
+known-inside : (own : Address) (s : Session) → Sound own s → (n : ℕ) → 1 ≤ n → (leb n (s .announced .segments .0) && alreadyIn s n) ≡ alreadyIn s n
+known-inside own s ok n l = go (leb n (s .announced .segments .0)) refl
+  where
+    past : leb n (s .announced .segments .0) ≡ false → alreadyIn s n ≡ false
+    past e =
+        let h : s .announced .segments .0 < n = leb-false n (s .announced .segments .0) e in
+        by-test (isRts (s .announced .kind))
+        (λ r.
+        cond-true (isRts (s .announced .kind)) _ _ r
+        ∙ none-past-in (s .progress .taken) (s .announced .segments .0) (agreed (s .progress .taken) (s .announced .segments .0) (s .progress .missing) (ok .reached .gathered r .agree) .past) n h)
+        (λ r.
+        let q : s .progress .next .0 ≤ s .announced .segments .0 + 1 = ok .reached .sequence r .high in
+        cond-false (isRts (s .announced .kind)) _ _ r ∙ le-ltb n (s .progress .next .0) (omega arith))
+
+    go : (t : Bool) → leb n (s .announced .segments .0) ≡ t → (t && alreadyIn s n) ≡ alreadyIn s n
+    go true e = refl
+    go false e = sym (past e)
 
 explained : (v : Values) (k i : ℕ) (m : List ℕ) (x : State) → stateOk (v .own) x ≡ true → holds k x ≡ true → Ses v k x (part i m) (openOf i m x)
 unfolding openOf
@@ -142,20 +188,25 @@ explained v k i m is.Closed e h = tt
 explained v k i m (is.Open s) e h =
     let ok : Sound (v .own) s = sound-of (v .own) s e in
     let total : ℕ = s .announced .total .0 in
-    let next : ℕ = s .progress .next .0 in
-    let low : 1 ≤ s .progress .next .0 = ok .reached .low in
-    let high : s .progress .next .0 ≤ s .announced .segments .0 + 1 = ok .reached .high in
-    let is-cut : piecesOf i m total (next - 1) ≡ cut total (next - 1) (part i m) =
-    pieces-cut i m total (s .announced .segments .0) (next - 1) (ok .agreed .fits) (ok .agreed .count) (omega arith) in
-    let len : length (piecesOf i m total (next - 1)) ≡ next - 1 = ap length is-cut ∙ length-cut total (next - 1) (part i m) in
-    let same = same-record s k (length (piecesOf i m total (next - 1)) + 1) (open-key k s h) (omega arith) in (
+    let segments : ℕ = s .announced .segments .0 in (
+      record { next = s .progress .next .0; taken = s .progress .taken; missing = s .progress .missing },
       same,
       record {
-        pieces = is-cut ∙ ap (λ (n : ℕ). cut total n (part i m)) (sym len);
+        pieces = gathered-of (alreadyIn s) i m total segments (ok .agreed .fits) (ok .agreed .count) segments (omega arith);
+        same = λ n l. taken-of (alreadyIn s) i m total segments (ok .agreed .fits) (ok .agreed .count) segments n l ∙ known-inside (v .own) s ok n l;
         plain = refl;
         fine = subst (λ (z : Session). sessionOk (v .own) z ≡ true) same e;
       },
     )
+  where
+    same : s ≡ record {
+      announced = record { key = keyAt k; kind = s .announced .kind; total = s .announced .total; segments = s .announced .segments; max = s .announced .max; pgn = s .announced .pgn };
+      progress = s .progress;
+    }
+    same = ap (λ (κ : Key). record {
+      announced = record { key = κ; kind = s .announced .kind; total = s .announced .total; segments = s .announced .segments; max = s .announced .max; pgn = s .announced .pgn };
+      progress = s .progress;
+    }) (open-key k s h)
 
 -- every record in bounds is one that a world of rules explains
 pub bounds-sim : (r : Receiver) (m : List ℕ) → inBounds r ≡ true → length (r .slots) ≡ 8 → length m ≡ 32768 → Sim (valuesOf r) r m (standsFor r m)

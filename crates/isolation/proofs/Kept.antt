@@ -8,8 +8,8 @@ use mathlib.Core.List.{List}
 use lib.Dec.{eqb, ltb}
 use lib.ListN.{length}
 use Rattle.transport.specs.declared.announcement.Announcement.{Announcement}
-use Rattle.isolation.specs.OwnFrames.{Body, announce, segment, status, abort}
-use Rattle.isolation.specs.Rules.{Values, Open, Out, badNumbers, opens, announced, nextOf, isTaken, due, adds, segmentOpen, asAnnounced, statusOpen, abortOpen, ifOpen, rule, isSilent, judgedAt}
+use Rattle.isolation.specs.OwnFrames.{isRts, Body, announce, segment, status, abort}
+use Rattle.isolation.specs.Rules.{Values, Open, Out, badNumbers, opens, announced, outOfTurn, isTaken, due, adds, segmentOpen, asAnnounced, asks, lacks, statusOpen, abortOpen, ifOpen, rule, isSilent, judgedAt}
 use Rattle.isolation.proofs.Tests.{either-way}
 use Rattle.isolation.proofs.Announced.{Comes, astray, refused, accepted, comes}
 
@@ -20,7 +20,7 @@ IfOpen Q (some ρ) = Q ρ
 -- segment n with the bytes d meets none of 18, 19 and 20
 pub record Passes (ρ : Open) (n : ℕ) (d : List ℕ) : Type 0 where
   pub new : (eqb n 0 || isTaken n (ρ .pieces)) ≡ false
-  pub next : (ltb (nextOf ρ) n || ltb (ρ .told .segments .0) n) ≡ false
+  pub inside : (outOfTurn ρ n || ltb (ρ .told .segments .0) n) ≡ false
   pub enough : ltb (length d) (due (ρ .told .total .0) n) ≡ false
 
 module _ (Q : Open → Type 0) where
@@ -40,25 +40,30 @@ module _ (Q : Open → Type 0) where
   unfolding segmentOpen
   segment-keeps k last ρ n d added h =
       either-way Keeps (eqb n 0 || isTaken n (ρ .pieces)) (λ _. h) (λ a.
-      either-way Keeps (ltb (nextOf ρ) n || ltb (ρ .told .segments .0) n) (λ _. tt) (λ b.
+      either-way Keeps (outOfTurn ρ n || ltb (ρ .told .segments .0) n) (λ _. tt) (λ b.
       either-way Keeps (ltb (length d) (due (ρ .told .total .0) n)) (λ _. h) (λ c.
-      added (record { new = a; next = b; enough = c }))))
+      added (record { new = a; inside = b; enough = c }))))
 
   pub rule-keeps : (v : Values) (k last : ℕ) (eight : Bool) (x : Option Open) (b : Body)
       → ((a : Announcement) → badNumbers a ≡ false → IfOpen Q (opens k last a .0))
       → ((format n : ℕ) (d : List ℕ) → b ≡ segment format n d → (ρ : Open) → Q ρ → Passes ρ n d → IfOpen Q (adds k last ρ n d .0))
+      → ((ρ : Open) → Q ρ → IfOpen Q (asks k last ρ .0))
       → IfOpen Q x → IfOpen Q (rule v k last eight x b .0)
-  unfolding rule statusOpen abortOpen
-  rule-keeps v k last eight x (announce a) new added h = announce-keeps v k last eight x a (new a) h
-  rule-keeps v k last eight x (segment format n d) new added h = either-way Keeps (not (eqb format 0)) (λ _. h) (λ _. go x h)
+  unfolding rule statusOpen lacks abortOpen
+  rule-keeps v k last eight x (announce a) new added asked h = announce-keeps v k last eight x a (new a) h
+  rule-keeps v k last eight x (segment format n d) new added asked h = either-way Keeps (not (eqb format 0)) (λ _. h) (λ _. go x h)
     where
       go : (x : Option Open) → IfOpen Q x → IfOpen Q (ifOpen x (λ r. segmentOpen k last r n d) .0)
       go none h = tt
       go (some ρ) h = segment-keeps k last ρ n d (added format n d refl ρ h) h
-  rule-keeps v k last eight none (status s) new added h = tt
-  rule-keeps v k last eight (some ρ) (status s) new added h = either-way Keeps (asAnnounced ρ s) (λ _. tt) (λ _. tt)
-  rule-keeps v k last eight none (abort pgn) new added h = tt
-  rule-keeps v k last eight (some ρ) (abort pgn) new added h = either-way Keeps (eqb pgn (ρ .told .pgn)) (λ _. tt) (λ _. h)
+  rule-keeps v k last eight none (status s) new added asked h = tt
+  rule-keeps v k last eight (some ρ) (status s) new added asked h =
+      either-way Keeps (not (asAnnounced ρ s)) (λ _. tt) (λ _.
+      either-way Keeps (eqb (length (ρ .pieces)) (ρ .told .segments .0)) (λ _. tt) (λ _.
+      either-way Keeps (not (isRts (ρ .told .kind))) (λ _. tt) (λ _.
+      either-way Keeps (ltb (ρ .requests) 5) (λ _. asked ρ h) (λ _. tt))))
+  rule-keeps v k last eight none (abort pgn) new added asked h = tt
+  rule-keeps v k last eight (some ρ) (abort pgn) new added asked h = either-way Keeps (eqb pgn (ρ .told .pgn)) (λ _. tt) (λ _. h)
 
   pub reading-keeps : (v : Values) (t : ℕ) (x : Option Open) → IfOpen Q x → IfOpen Q (judgedAt v t x)
   unfolding judgedAt

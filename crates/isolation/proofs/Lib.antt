@@ -5,6 +5,8 @@ pub mod Bytes
 pub mod Opened
 pub mod Same
 pub mod Pieces
+pub mod Gathered
+pub mod Recorded
 pub mod Fit
 pub mod Single
 pub mod Silent

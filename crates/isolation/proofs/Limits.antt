@@ -1,26 +1,31 @@
 -- 23 exactly where 01 says: the record's bounds fact by fact, and the store's length.
-use Prim.Native.Nat.{ℕ, _≤_}
-use mathlib.Core.Path.{_≡_, refl, sym, ap, _∙_, subst}
+use Prim.Native.Nat.{ℕ, zero, suc, _+_, _-_, _/_, _%_, _^_, _≤_}
+use mathlib.Core.Path.{_≡_, refl, sym, ap, ap₂, _∙_, subst}
 use mathlib.Core.Bool.{Bool, true, false, cond, not, _&&_, false≢true}
 use mathlib.Core.List.{List, [], _∷_}
 use native.Mathlib.Omega.{arith}
 use lib.Dec.{eqb, leb}
 use lib.ListN.{length, replicate}
-use borrow.Author.Tests.{eqb-true, eqb-false, eq-eqb, ne-eqb, leb-true, le-leb, not-true}
+use borrow.Author.Tests.{eqb-true, eqb-false, eq-eqb, ne-eqb, leb-true, le-leb, ltb-true, lt-ltb, not-true}
 use Rattle.laws.specs.Choice.{each-of, all-of}
+use Rattle.segments.specs.declared.Segments.{Segments}
+use Rattle.segments.specs.Digits.{digit}
+use Rattle.segments.specs.Model.{value, missingOf}
+use Rattle.segments.specs.Laws.{number-of, in-digit, agreed, agree-of}
 use Rattle.frame.specs.declared.Address.{Address}
 use Rattle.frame.specs.declared.refusal.Refusal.the-variants.{OutOfBounds}
 use Rattle.transport.specs.Kinds.{isRts}
 use Rattle.transport.specs.declared.Key.{Key}
 use Rattle.answer.specs.declared.Acceptance.the-variants as acceptance
 use Rattle.answer.specs.Answers.{answerNumber}
+use Rattle.progress.specs.declared.Progress.{Progress}
 use Rattle.progress.specs.declared.wait.Wait.{Wait}
 use Rattle.progress.specs.declared.wait.Wait.the-variants.{First, Second}
 use Rattle.progress.specs.Waits.{isSecond}
 use Rattle.session.specs.declared.Session.{Session}
 use Rattle.session.specs.declared.State.{State}
 use Rattle.session.specs.declared.State.the-variants.{Closed, Open}
-use Rattle.session.specs.Bounds.{waitOk, sessionOk, stateOk}
+use Rattle.session.specs.Bounds.{Gathered, sessionOk, stateOk}
 use Rattle.session.specs.InBounds.{Sound, sound-of, of-sound}
 use Rattle.slots.specs.Bounds.{valuesOk, slotsOk}
 use Rattle.receiver.specs.declared.Receiver.{Receiver}
@@ -28,7 +33,7 @@ use Rattle.receiver.specs.Bounds.{inBounds}
 use Rattle.receiver.specs.Calls.{refused, isReady, frameAll, frameStep, readingStep, stays}
 use Rattle.isolation.specs.OwnFrames as F
 use Rattle.isolation.specs.OwnFrames.{keyAt}
-use Rattle.isolation.specs.Limits.{SessionIn, RecordIn}
+use Rattle.isolation.specs.Limits.{absent, GatheredIn, SessionIn, RecordIn}
 use Rattle.isolation.proofs.Tests.{clash, or-false, and-left, and-right, both}
 use Rattle.isolation.proofs.Slots.{at, holds, holds-free, open-key, keys-same, keyNumber, key-of, Small}
 use Rattle.isolation.proofs.Same.{kind-same, sixties-same, pgn-same}
@@ -39,21 +44,47 @@ use Rattle.isolation.proofs.Elapsed.{reading-refused}
 
 -- ---- a session
 
--- what is not by RTS is in the second wait
-by-wait : (w : Wait) (rts : Bool) → waitOk rts w ≡ true → rts ≡ false → w ≡ Second
-by-wait w true e r = absurd (false≢true (sym r))
-by-wait First false e r = absurd (false≢true e)
-by-wait Second false e r = refl
+second : (w : Wait) → isSecond w ≡ true → w ≡ Second
+second First e = absurd (false≢true e)
+second Second e = refl
 
-of-wait : (w : Wait) (rts : Bool) → (rts ≡ false → w ≡ Second) → waitOk rts w ≡ true
-of-wait w true f = refl
-of-wait w false f = ap isSecond (f refl)
+-- the count over the record
+absent-same : (t : Segments) (c : ℕ) → c ≤ 69 → absent t c ≡ missingOf t c
+unfolding absent missingOf digit
+absent-same t zero u = refl
+absent-same t (suc c) u =
+    let z : suc c - 1 ≡ c = omega arith in
+    ap₂ (λ (n : ℕ) (b : Bool). n + cond b 0 1) (absent-same t c (omega arith))
+    (ap (λ (n : ℕ). eqb (value t / 2 ^ n % 2) 1) (sym z) ∙ sym (in-digit t (suc c) (number-of (suc c) (omega arith) u)))
+
+module _ (p : Progress) (segments : ℕ) (few : segments ≤ 69) where
+  gathered-in : Gathered (p .taken) (p .missing) (p .requests) (p .granted .0) segments → GatheredIn p segments
+  gathered-in h =
+      let g = agreed (p .taken) segments (p .missing) (h .agree) in
+      record {
+        past = ltb-true (value (p .taken)) (2 ^ segments) (g .past);
+        missing = sym (g .missing) ∙ sym (absent-same (p .taken) segments few);
+        requests = h .few;
+        granted-low = h .low;
+        granted-high = h .high;
+      }
+
+  in-gathered : GatheredIn p segments → Gathered (p .taken) (p .missing) (p .requests) (p .granted .0) segments
+  in-gathered h = record {
+    agree = agree-of (p .taken) segments (p .missing) few (lt-ltb (value (p .taken)) (2 ^ segments) (h .past)) (sym (absent-same (p .taken) segments few) ∙ sym (h .missing));
+    few = h .requests;
+    low = h .granted-low;
+    high = h .granted-high;
+  }
 
 module _ (own : Address) (s : Session) where
   tests : List Bool
   tests =
       leb (s .announced .key .sa .0) 253 ∷ not (eqb (s .announced .key .sa .0) (own .0))
       ∷ eqb (s .announced .key .da .0) (cond (isRts (s .announced .kind)) (own .0) 255) ∷ leb (s .announced .key .session .0) 15 ∷ []
+
+  few : s .announced .total .0 ≤ 4096 → s .announced .segments .0 ≡ (s .announced .total .0 + 59) / 60 → s .announced .segments .0 ≤ 69
+  few t c = omega arith
 
   session-in : sessionOk own s ≡ true → SessionIn own s
   unfolding tests
@@ -70,10 +101,10 @@ module _ (own : Address) (s : Session) where
         sa-other = eqb-false (s .announced .key .sa .0) (own .0) (not-true (eqb (s .announced .key .sa .0) (own .0)) (t .1 .0));
         da = rw (kind-same (s .announced .kind)) (eqb-true (s .announced .key .da .0) (cond (isRts (s .announced .kind)) (own .0) 255) (t .1 .1 .0));
         session = leb-true (s .announced .key .session .0) 15 (t .1 .1 .1 .0);
-        next-low = h .reached .low;
-        next-high = h .reached .high;
-        granted = λ r. h .reached .ahead (sym (kind-same (s .announced .kind)) ∙ r);
-        wait = λ r. by-wait (s .progress .wait) (isRts (s .announced .kind)) (h .reached .wait) (sym (kind-same (s .announced .kind)) ∙ r);
+        gathered = λ r. gathered-in (s .progress) (s .announced .segments .0) (few (h .agreed .fits) (h .agreed .count)) (h .reached .gathered (sym (kind-same (s .announced .kind)) ∙ r));
+        next-low = λ r. h .reached .sequence (sym (kind-same (s .announced .kind)) ∙ r) .low;
+        next-high = λ r. h .reached .sequence (sym (kind-same (s .announced .kind)) ∙ r) .high;
+        wait = λ r. second (s .progress .wait) (h .reached .sequence (sym (kind-same (s .announced .kind)) ∙ r) .second);
       }
 
   in-session : SessionIn own s → sessionOk own s ≡ true
@@ -98,10 +129,10 @@ module _ (own : Address) (s : Session) where
           ),
         );
         reached = record {
-          low = h .next-low;
-          high = h .next-high;
-          ahead = λ r. h .granted (kind-same (s .announced .kind) ∙ r);
-          wait = of-wait (s .progress .wait) (isRts (s .announced .kind)) (λ r. h .wait (kind-same (s .announced .kind) ∙ r));
+          gathered = λ r. in-gathered (s .progress) (s .announced .segments .0) (few (h .at-most) (h .count ∙ sixties-same (s .announced .total .0))) (h .gathered (kind-same (s .announced .kind) ∙ r));
+          sequence = λ r.
+              let q : F.isRts (s .announced .kind) ≡ false = kind-same (s .announced .kind) ∙ r in
+              record { low = h .next-low q; high = h .next-high q; second = ap isSecond (h .wait q) };
         };
       })
 

@@ -79,7 +79,7 @@ own-small own limits e =
 pub ses-ok : (v : Values) (k : ℕ) (x : State) (p : List ℕ) (y : Option Open) → Ses v k x p y → stateOk (v .own) x ≡ true
 ses-ok v k is.Closed p y m = refl
 ses-ok v k (is.Open s) p none m = absurd m
-ses-ok v k (is.Open s) p (some ρ) m = rw (m .0) (m .1 .fine)
+ses-ok v k (is.Open s) p (some ρ) m = rw (m .1) (m .2 .fine)
 
 module _ (v : Values) (r : Receiver) (m : List ℕ) (w : World) (sim : Sim v r m w) (k : ℕ) (o : Outcome) (y : Option Open) (mv : Moves v r m k o y)
     (w′ : World) (wk : w′ k .session ≡ y) (wo : (j : ℕ) → (j ≡ k → ⊥) → w′ j .session ≡ w j .session) (wl : (j : ℕ) → w′ j .last ≡ w j .last) where
@@ -259,12 +259,12 @@ module _ (v : Values) (r : Receiver) (m : List ℕ) (w : World) (sim : Sim v r m
       let y : length (r .slots) ≡ 8 = sim .eight in
       let low : i < 8 = omega arith in
       let here : holds k (at (r .slots) i) ≡ true = find-some k (r .slots) i f .0 in
-      let state : at (r .slots) i ≡ is.Open (recordOf k ρ) = e ∙ ap is.Open (ses .0) in
+      let state : at (r .slots) i ≡ is.Open (recordOf k ρ (ses .0)) = e ∙ ap is.Open (ses .1) in
       in-slot (At i)
       (λ j u. subst (λ (j : ℕ). (j < 8) × Place (r .slots) j k) (slot-same i j u)
       (low, λ j n g. ((λ u. holds-one n k (at (r .slots) i) (rw u at g) here), (λ u. sim .uniq j i k (rw u at g) here))))
       (some ρ) (rule v k (r .last) (eightOthers w k) (some ρ) b)
-      (rw state (held-tied v k i low m (sim .whole) me ρ (ses .1) (r .last) (eightOthers w k) true b d reads))
+      (rw state (held-tied v k i low m (sim .whole) me ρ (ses .0) (ses .2) (r .last) (eightOthers w k) true b d reads))
       (ap (λ (g : Found). orElse g (firstFree (r .slots))) f)
 
   -- no slot is the key's

@@ -5,10 +5,9 @@ use mathlib.Core.Bool.{Bool, true, false, cond, not, _&&_, _||_}
 use mathlib.Core.Option.{Option, none, some}
 use mathlib.Core.List.{List, [], _∷_}
 use native.Mathlib.Omega.{arith}
-use native.Mathlib.Decide.{ℕ-discrete}
 use lib.Dec.{eqb, ltb}
 use lib.ListN.{length, take, length-take, length-append}
-use borrow.Author.Tests.{ltb-false, eqb-true, eqb-false, eq-eqb, ne-eqb, not-false}
+use borrow.Author.Tests.{ltb-false, eqb-true, eqb-false, not-false}
 use Rattle.isolation.specs.Standard.{Cause}
 use Rattle.transport.specs.declared.announcement.Announcement.{Announcement}
 use Rattle.transport.specs.declared.eoms.Status.{Status}
@@ -18,52 +17,31 @@ use Rattle.isolation.specs.Replies as P
 use Rattle.isolation.specs.Rules as R
 use Rattle.isolation.specs.OwnFrames.{Body, announce, segment, status, abort}
 use Rattle.isolation.specs.Replies.{Reply, Says, nothing, reject, ending, cts, handOver}
-use Rattle.isolation.specs.Rules.{Values, Open, Out, State, Piece, nextOf, closes, opens, announced, due, sixties, spent, adds, asAnnounced, segmentOpen, statusOpen, abortOpen, rule, ifOpen, joined, pieceAt, isTaken, isOpen, Input, mine, now, nextState, fresh}
+use Rattle.isolation.specs.Rules.{Values, Open, Out, State, Piece, outOfTurn, closes, opens, announced, due, sixties, spent, adds, asAnnounced, asks, lacks, segmentOpen, statusOpen, abortOpen, rule, ifOpen, joined, pieceAt, isTaken, isOpen, Input, mine, now, nextState, fresh}
 use Rattle.isolation.specs.World.{after}
-use Rattle.isolation.proofs.Tests.{or-false, clash, either-way, or-left, or-right, and-left, or-1, or-2}
+use Rattle.isolation.proofs.Tests.{or-false, clash, either-way, or-left, or-right}
 use Rattle.isolation.proofs.Same.{sixties-same, due-same}
+use Rattle.isolation.proofs.Gathered.{Distinct, distinct-at, distinct-all}
 use Rattle.isolation.proofs.Announced.{Comes, astray, refused, accepted, comes}
 use Rattle.isolation.proofs.Kept.{IfOpen, Passes, rule-keeps, reading-keeps}
 
 -- ---- what an open session has taken
 
--- segments numbered from 1 without a gap, each with the data due
-abbrev pub Filled : ℕ → List Piece → Type 0
-Filled total [] = Unit {0}
-Filled total (x ∷ xs) = (x .number ≡ suc (length xs)) × (length (x .bytes) ≡ due total (suc (length xs))) × Filled total xs
-
+-- segments of the message, none twice, each with the data due
 pub record Whole (ρ : Open) : Type 0 where
   pub count : ρ .told .segments .0 ≡ sixties (ρ .told .total .0)
-  pub filled : Filled (ρ .told .total .0) (ρ .pieces)
-  pub upto : length (ρ .pieces) ≤ ρ .told .segments .0
+  pub filled : Distinct (λ n b. length b ≡ due (ρ .told .total .0) n) (ρ .told .segments .0) (ρ .pieces)
 
 abbrev pub WholeIf : Option Open → Type 0
 WholeIf x = IfOpen Whole x
 
-pub taken-in : (total : ℕ) (xs : List Piece) → Filled total xs → (n : ℕ) → 1 ≤ n → n ≤ length xs → isTaken n xs ≡ true
-unfolding isTaken
-taken-in total [] f n l u = absurd (omega arith)
-taken-in total (x ∷ xs) f n l u = go (ℕ-discrete (suc (length xs)) n) (taken-in total xs (f .2) n l)
-  where
-    go : Dec (suc (length xs) ≡ n) → (n ≤ length xs → isTaken n xs ≡ true) → (eqb (x .number) n || isTaken n xs) ≡ true
-    go (yes z) ih = or-1 _ _ (eq-eqb (x .number) n (f .0 ∙ z))
-    go (no z) ih = or-2 (eqb (x .number) n) _ (ih (omega arith))
-
-piece-length : (total : ℕ) (xs : List Piece) → Filled total xs → (n : ℕ) → 1 ≤ n → n ≤ length xs → length (pieceAt n xs) ≡ due total n
-unfolding pieceAt
-piece-length total [] f n l u = absurd (omega arith)
-piece-length total (x ∷ xs) f n l u = go (ℕ-discrete (suc (length xs)) n) (piece-length total xs (f .2) n l)
-  where
-    go : Dec (suc (length xs) ≡ n) → (n ≤ length xs → length (pieceAt n xs) ≡ due total n) → length (cond (eqb (x .number) n) (x .bytes) (pieceAt n xs)) ≡ due total n
-    go (yes z) ih = rw (eq-eqb (x .number) n (f .0 ∙ z)) (f .1 ∙ ap (due total) z)
-    go (no z) ih = rw (ne-eqb (x .number) n (λ y. z (sym (f .0) ∙ y))) (ih (omega arith))
-
-joined-length : (total segments : ℕ) (xs : List Piece) → Filled total xs → segments ≡ (total + 59) / 60 → (n : ℕ) → n ≤ length xs → n ≤ segments → length (joined n xs) ≡ min (60 * n) total
+joined-length : (total segments : ℕ) (xs : List Piece) → segments ≡ (total + 59) / 60 → (n : ℕ) → n ≤ segments
+    → ((i : ℕ) → 1 ≤ i → i ≤ n → length (pieceAt i xs) ≡ due total i) → length (joined n xs) ≡ min (60 * n) total
 unfolding joined dueOf
-joined-length total segments xs f s zero u h = omega arith
-joined-length total segments xs f s (suc n) u h =
-    let a : length (joined n xs) ≡ min (60 * n) total = joined-length total segments xs f s n (omega arith) (omega arith) in
-    let b : length (pieceAt (suc n) xs) ≡ min 60 (total - 60 * (suc n - 1)) = piece-length total xs f (suc n) (omega arith) u ∙ due-same total (suc n) (omega arith) in
+joined-length total segments xs s zero u h = omega arith
+joined-length total segments xs s (suc n) u h =
+    let a : length (joined n xs) ≡ min (60 * n) total = joined-length total segments xs s n (omega arith) (λ i l r. h i l (omega arith)) in
+    let b : length (pieceAt (suc n) xs) ≡ min 60 (total - 60 * (suc n - 1)) = h (suc n) (omega arith) (omega arith) ∙ due-same total (suc n) (omega arith) in
     length-append (joined n xs) (pieceAt (suc n) xs) ∙ sum (length (joined n xs)) (length (pieceAt (suc n) xs)) a b
   where
     sum : (p q : ℕ) → p ≡ min (60 * n) total → q ≡ min 60 (total - 60 * (suc n - 1)) → p + q ≡ min (60 * suc n) total
@@ -78,38 +56,29 @@ opens-whole k last a bad = record {
       (or-left (not (eqb (a .segments .0) (sixties (a .total .0)))) (F.isRts (a .kind) && eqb (a .max) 0)
       (or-right (eqb (a .total .0) 0) (not (eqb (a .segments .0) (sixties (a .total .0))) || (F.isRts (a .kind) && eqb (a .max) 0)) bad)));
   filled = tt;
-  upto = omega arith;
 }
 
 adds-whole : (k last : ℕ) (ρ : Open) (n : ℕ) (d : List ℕ) → Whole ρ → Passes ρ n d → WholeIf (adds k last ρ n d .0)
 unfolding adds
 adds-whole k last ρ n d h p =
     let l₀ : n ≡ 0 → ⊥ = eqb-false n 0 (or-left (eqb n 0) (isTaken n (ρ .pieces)) (p .new)) in
-    let l₂ : n ≤ length (ρ .pieces) + 1 = ltb-false (length (ρ .pieces) + 1) n (or-left (ltb (nextOf ρ) n) (ltb (ρ .told .segments .0) n) (p .next)) in
-    let l₃ : n ≤ ρ .told .segments .0 = ltb-false (ρ .told .segments .0) n (or-right (ltb (nextOf ρ) n) (ltb (ρ .told .segments .0) n) (p .next)) in
-    let l₄ : due (ρ .told .total .0) n ≤ length d = ltb-false (length d) (due (ρ .told .total .0) n) (p .enough) in
-    let l₁ : n ≤ length (ρ .pieces)
-    → ⊥ = (λ u. clash (isTaken n (ρ .pieces)) (taken-in (ρ .told .total .0) (ρ .pieces) (h .filled) n (omega arith) u)
-    (or-right (eqb n 0) (isTaken n (ρ .pieces)) (p .new))) in
-    let e : n ≡ suc (length (ρ .pieces)) = next n (length (ρ .pieces)) l₁ l₂ in
+    let l₁ : n ≤ ρ .told .segments .0 = ltb-false (ρ .told .segments .0) n (or-right (outOfTurn ρ n) (ltb (ρ .told .segments .0) n) (p .inside)) in
+    let l₂ : due (ρ .told .total .0) n ≤ length d = ltb-false (length d) (due (ρ .told .total .0) n) (p .enough) in
     record {
       count = h .count;
-      filled = (e, size e l₄, h .filled);
-      upto = omega arith;
+      filled = (omega arith, l₁, or-right (eqb n 0) (isTaken n (ρ .pieces)) (p .new), length-take (due (ρ .told .total .0) n) d ∙ least (due (ρ .told .total .0) n) (length d) l₂, h .filled);
     }
   where
-    next : (n c : ℕ) → (n ≤ c → ⊥) → n ≤ c + 1 → n ≡ suc c
-    next n c a b = omega arith
+    least : (a b : ℕ) → a ≤ b → min a b ≡ a
+    least a b h = omega arith
 
-    size : n ≡ suc (length (ρ .pieces)) → due (ρ .told .total .0) n ≤ length d → length (take (due (ρ .told .total .0) n) d) ≡ due (ρ .told .total .0) (suc (length (ρ .pieces)))
-    size e l = length-take (due (ρ .told .total .0) n) d ∙ least (due (ρ .told .total .0) n) (length d) l ∙ ap (due (ρ .told .total .0)) e
-      where
-        least : (a b : ℕ) → a ≤ b → min a b ≡ a
-        least a b h = omega arith
+asks-whole : (k last : ℕ) (ρ : Open) → Whole ρ → WholeIf (asks k last ρ .0)
+unfolding asks
+asks-whole k last ρ h = record { count = h .count; filled = h .filled }
 
 pub rule-whole : (v : Values) (k last : ℕ) (eight : Bool) (x : Option Open) (b : Body) → WholeIf x → WholeIf (rule v k last eight x b .0)
 rule-whole v k last eight x b =
-    rule-keeps Whole v k last eight x b (opens-whole k last) (λ format n d e ρ. adds-whole k last ρ n d)
+    rule-keeps Whole v k last eight x b (opens-whole k last) (λ format n d e ρ. adds-whole k last ρ n d) (asks-whole k last)
 
 -- ... and so does every list of frames and readings, from the opening on
 pub after-whole : (v : Values) (k : ℕ) (s : State) (xs : List Input) → WholeIf (s .session) → WholeIf (after v k s xs .session)
@@ -172,31 +141,34 @@ segment-hands : (k last : ℕ) (ρ : Open) (n : ℕ) (d : List ℕ) → isHanded
 unfolding segmentOpen adds cts ending
 segment-hands k last ρ n d =
     either-way (HandsIf k (some ρ)) (eqb n 0 || isTaken n (ρ .pieces)) (λ _. not-handed k (some ρ) _ refl) (λ _.
-    either-way (HandsIf k (some ρ)) (ltb (nextOf ρ) n || ltb (ρ .told .segments .0) n) (λ _. not-handed k (some ρ) _ refl) (λ _.
+    either-way (HandsIf k (some ρ)) (outOfTurn ρ n || ltb (ρ .told .segments .0) n) (λ _. not-handed k (some ρ) _ refl) (λ _.
     either-way (HandsIf k (some ρ)) (ltb (length d) (due (ρ .told .total .0) n)) (λ _. not-handed k (some ρ) _ refl) (λ _.
     not-handed k (some ρ) _ (quiet-reply (spent ρ n) _ _ refl refl))))
 
 all-joined : (ρ : Open) → Whole ρ → length (ρ .pieces) ≡ ρ .told .segments .0 → length (joined (ρ .told .segments .0) (ρ .pieces)) ≡ ρ .told .total .0
 all-joined ρ h e =
     let s : ρ .told .segments .0 ≡ (ρ .told .total .0 + 59) / 60 = h .count ∙ sixties-same (ρ .told .total .0) in
-    joined-length (ρ .told .total .0) (ρ .told .segments .0) (ρ .pieces) (h .filled) s (ρ .told .segments .0) (omega arith) (omega arith)
+    joined-length (ρ .told .total .0) (ρ .told .segments .0) (ρ .pieces) s (ρ .told .segments .0) (omega arith)
+    (λ i l u. distinct-at Q (ρ .told .segments .0) i (ρ .pieces) (h .filled) (distinct-all Q (ρ .told .segments .0) (ρ .pieces) (h .filled) e i l u))
     ∙ least (ρ .told .total .0) (ρ .told .segments .0) s
   where
+    Q : ℕ → List ℕ → Type 0
+    Q n b = length b ≡ due (ρ .told .total .0) n
+
     least : (t c : ℕ) → c ≡ (t + 59) / 60 → min (60 * c) t ≡ t
     least t c e = omega arith
 
-status-hands : (k : ℕ) (ρ : Open) (s : Status) → Whole ρ → isHanded (statusOpen k ρ s .1 .says) ≡ true → Hands k (some ρ) (statusOpen k ρ s)
-unfolding statusOpen asAnnounced ending
-status-hands k ρ s h =
-    either-way (HandsIf k (some ρ))
-    (eqb (length (ρ .pieces)) (ρ .told .segments .0) &&
-    (eqb (s .total .0) (ρ .told .total .0) &&
-    (eqb (s .segments .0) (ρ .told .segments .0) && (eqb (s .assurance) (ρ .told .assurance) && eqb (s .pgn) (ρ .told .pgn)))))
+status-hands : (k last : ℕ) (ρ : Open) (s : Status) → Whole ρ → isHanded (statusOpen k last ρ s .1 .says) ≡ true → Hands k (some ρ) (statusOpen k last ρ s)
+unfolding statusOpen lacks asks cts ending
+status-hands k last ρ s h =
+    either-way (HandsIf k (some ρ)) (not (asAnnounced ρ s)) (λ _. not-handed k (some ρ) _ refl) (λ _.
+    either-way (HandsIf k (some ρ)) (eqb (length (ρ .pieces)) (ρ .told .segments .0))
     (λ t _.
-    let e : length (ρ .pieces) ≡ ρ .told .segments .0 =
-    eqb-true (length (ρ .pieces)) (ρ .told .segments .0) (and-left (eqb (length (ρ .pieces)) (ρ .told .segments .0)) _ t) in
+    let e : length (ρ .pieces) ≡ ρ .told .segments .0 = eqb-true (length (ρ .pieces)) (ρ .told .segments .0) t in
     record { session = ρ; was = refl; all-in = e; closed = refl; reply = refl; size = all-joined ρ h e })
-    (λ _. not-handed k (some ρ) _ refl)
+    (λ _.
+    either-way (HandsIf k (some ρ)) (not (F.isRts (ρ .told .kind))) (λ _. not-handed k (some ρ) _ refl) (λ _.
+    either-way (HandsIf k (some ρ)) (ltb (ρ .requests) 5) (λ _. not-handed k (some ρ) _ refl) (λ _. not-handed k (some ρ) _ refl))))
 
 -- In whatever state a list of frames and readings left the rules: a frame that hands over closes the session, and the message is its data
 -- joined, exactly Total Bytes long. A session hands over once, since a closed one does not hand over.
@@ -209,7 +181,7 @@ hands-over v k last eight x (segment format n d) h = either-way (HandsIf k x) (n
     go none h = not-handed k none _ refl
     go (some ρ) h = segment-hands k last ρ n d
 hands-over v k last eight none (status s) h = not-handed k none _ refl
-hands-over v k last eight (some ρ) (status s) h = status-hands k ρ s h
+hands-over v k last eight (some ρ) (status s) h = status-hands k last ρ s h
 hands-over v k last eight none (abort pgn) h = not-handed k none _ refl
 hands-over v k last eight (some ρ) (abort pgn) h = either-way (HandsIf k (some ρ)) (eqb pgn (ρ .told .pgn)) (λ _. not-handed k (some ρ) _ refl) (λ _. not-handed k (some ρ) _ refl)
 

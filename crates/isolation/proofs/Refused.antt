@@ -102,7 +102,7 @@ module _ (r : Receiver) (m : List ℕ) (κ : Key) where
           step-effect (slotFor κ (r .slots)) _ _ refl (S.segment-effect (stateIn (slotFor κ (r .slots)) (r .slots)) (record { format = format; number = record { 0 = n }; room = length x }) (r .last))
           (λ c. rw c) (λ c. rw c)
       go (status st) =
-          step-effect (slotFor κ (r .slots)) _ m refl (S.status-effect (stateIn (slotFor κ (r .slots)) (r .slots)) (slotOf (slotFor κ (r .slots))) st) (λ _. refl) (λ _. refl)
+          step-effect (slotFor κ (r .slots)) _ m refl (S.status-effect (stateIn (slotFor κ (r .slots)) (r .slots)) (slotOf (slotFor κ (r .slots))) st (r .last)) (λ _. refl) (λ _. refl)
       go (abort pgn) = step-effect (slotFor κ (r .slots)) _ m refl (S.abort-effect (stateIn (slotFor κ (r .slots)) (r .slots)) pgn) (λ _. refl) (λ _. refl)
 
 -- ---- any frame, on any record and any buffer

@@ -49,7 +49,8 @@ use Rattle.isolation.proofs.InBounds.{bounds-sim}
 use Rattle.isolation.proofs.Run.{keeps, run}
 use Rattle.isolation.proofs.Announced.{Comes, astray, refused as turned-away, accepted, comes}
 use Rattle.isolation.proofs.Kept.{IfOpen, rule-keeps, reading-keeps}
-use Rattle.isolation.proofs.Message.{Whole, WholeIf, taken-in, opens-whole, rule-whole, isHanded, Hands, hands-over}
+use Rattle.isolation.proofs.Gathered.{distinct-all}
+use Rattle.isolation.proofs.Message.{Whole, WholeIf, opens-whole, rule-whole, isHanded, Hands, hands-over}
 
 -- ---- in the record
 
@@ -139,6 +140,10 @@ adds-since : (xs : List Input) (k last : ℕ) (ρ : R.Open) (n : ℕ) (d : List 
 unfolding adds
 adds-since xs k last ρ n d c h = (c, h)
 
+asks-since : (xs : List Input) (k last : ℕ) (ρ : R.Open) → Since xs ρ → IfOpen (Since xs) (R.asks k last ρ .0)
+unfolding R.asks
+asks-since xs k last ρ h = h
+
 module _ (v : Values) (k : ℕ) (xs : List Input) where
   hands-since : (x : Option R.Open) (q : Out) → WholeIf x → IfOpen (Since xs) x → Hands k x q → HandsSince k xs (q .1)
   hands-since x q w h o =
@@ -149,11 +154,8 @@ module _ (v : Values) (k : ℕ) (xs : List Input) where
         told = ρ .told;
         pieces = ρ .pieces;
         reply = o .reply;
-        came = λ n l u. one-of xs (ρ .told .total .0) (ρ .pieces) since n (taken-in (ρ .told .total .0) (ρ .pieces) (whole .filled) n l (most n (o .all-in) u));
+        came = λ n l u. one-of xs (ρ .told .total .0) (ρ .pieces) since n (distinct-all (λ n b. length b ≡ due (ρ .told .total .0) n) (ρ .told .segments .0) (ρ .pieces) (whole .filled) (o .all-in) n l u);
       }
-    where
-      most : (n : ℕ) → length (o .session .pieces) ≡ o .session .told .segments .0 → n ≤ o .session .told .segments .0 → n ≤ length (o .session .pieces)
-      most n e u = omega arith
 
   -- ys: what is left of xs
   went : (s : R.State) (ys : List Input) → ((total n : ℕ) (bytes : List ℕ) → Came total n bytes ys → Came total n bytes xs)
@@ -173,7 +175,7 @@ module _ (v : Values) (k : ℕ) (xs : List Input) where
       went (nextState v k s (mine eight b)) ys (λ total n bytes c. left total n bytes (inr c))
       (rule-whole v k (s .last) eight (s .session) b w)
       (rule-keeps (Since xs) v k (s .last) eight (s .session) b (λ a _. opens-since xs k (s .last) a)
-      (λ format n d is ρ all _. adds-since xs k (s .last) ρ n d (left _ _ _ (inl (brings n format d (ρ .told .total .0) is))) all) h) y a e
+      (λ format n d is ρ all _. adds-since xs k (s .last) ρ n d (left _ _ _ (inl (brings n format d (ρ .told .total .0) is))) all) (asks-since xs k (s .last)) h) y a e
     where
       brings : (n format : ℕ) (d : List ℕ) (total : ℕ) → b ≡ segment format n d → Brings total n (take (due total n) d) (mine eight b)
       brings n format d total is = subst (λ (z : Body). Brings total n (take (due total n) d) (mine eight z)) (sym is) (refl, refl)

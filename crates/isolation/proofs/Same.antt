@@ -9,11 +9,11 @@ use borrow.Author.Tests.{eqb-true, eqb-false, eq-eqb, ne-eqb, leb-true, leb-fals
 use Rattle.laws.specs.Bools.{by-test}
 use Rattle.frame.specs.declared.Address.{Address}
 use Rattle.frame.specs.declared.refusal.Refusal.{Refusal}
-use Rattle.frame.specs.declared.refusal.Refusal.the-variants.{PgnForm, AnnouncementForm, TooLong, Assurance, KeyOpen, SlotsFull, OutOfSequence, StatusMismatch, Silence}
+use Rattle.frame.specs.declared.refusal.Refusal.the-variants.{PgnForm, AnnouncementForm, TooLong, Assurance, KeyOpen, SlotsFull, OutOfSequence, StatusMismatch, RequestsSpent, Silence}
 use Rattle.frame.specs.Refusals.{numberOf}
 use Rattle.frame.specs.Lengths.{isLength}
 use Rattle.frame.specs.Pgn.{pgnOk}
-use Rattle.transport.specs.Reasons.{reasonOf}
+use Rattle.transport.specs.Reasons.{reasonOf, wireReason}
 use Rattle.transport.specs.declared.Kind.{Kind}
 use Rattle.transport.specs.declared.Kind.the-variants.{Rts, Bam}
 use Rattle.transport.specs.declared.announcement.Announcement.{Announcement}
@@ -43,6 +43,7 @@ refusalFor T.keyOpen = KeyOpen
 refusalFor T.eightOpen = SlotsFull
 refusalFor T.outOfOrder = OutOfSequence
 refusalFor T.unlikeAnnounced = StatusMismatch
+refusalFor T.requestsSpent = RequestsSpent
 refusalFor T.silent = Silence
 
 pub number-same : (c : Cause) → numberOf (refusalFor c) ≡ numberFor c
@@ -55,9 +56,10 @@ number-same T.keyOpen = refl
 number-same T.eightOpen = refl
 number-same T.outOfOrder = refl
 number-same T.unlikeAnnounced = refl
+number-same T.requestsSpent = refl
 number-same T.silent = refl
 
-pub reason-same : (c : Cause) → reasonOf (numberOf (refusalFor c)) ≡ reasonFor c
+pub reason-same : (c : Cause) → wireReason (refusalFor c) ≡ reasonFor c
 unfolding reasonOf reasonFor
 reason-same T.pgnWrong = refl
 reason-same T.numbersWrong = refl
@@ -67,6 +69,7 @@ reason-same T.keyOpen = refl
 reason-same T.eightOpen = refl
 reason-same T.outOfOrder = refl
 reason-same T.unlikeAnnounced = refl
+reason-same T.requestsSpent = refl
 reason-same T.silent = refl
 
 pub length-same : (n : ℕ) → isOneOf n fdLengths ≡ isLength n

@@ -25,12 +25,12 @@ use Rattle.isolation.specs.Observe.{endReply, endingOf}
 use Rattle.isolation.proofs.Tests.{clash}
 use Rattle.isolation.proofs.Slots.{holds, own-key, holds-one}
 use Rattle.isolation.proofs.Same.{kind-same, since-same}
-use Rattle.isolation.proofs.Fit.{recordOf, Ses, wire-cond}
+use Rattle.isolation.proofs.Fit.{Kept, recordOf, Ses, wire-cond}
 
 pub ses-holds : (v : Values) (k : ℕ) (s : Session) (p : List ℕ) (y : Option Open) → Ses v k (is.Open s) p y → holds k (is.Open s) ≡ true
 unfolding holds
 ses-holds v k s p none m = absurd m
-ses-holds v k s p (some ρ) m = rw (m .0) (own-key k)
+ses-holds v k s p (some ρ) m = rw (m .1) (own-key k)
 
 pub ses-key : (v : Values) (k : ℕ) (x : State) (p : List ℕ) (y : Option Open) → Ses v k x p y → (j : ℕ) → holds j x ≡ true → j ≡ k
 ses-key v k is.Closed p y m j e = unfold holds in (absurd (clash false e refl))
@@ -46,11 +46,11 @@ unfolding judgedAt isSilent
 expire-ses v t k is.Closed p none m = tt
 expire-ses v t k is.Closed p (some ρ) m = absurd m
 expire-ses v t k (is.Open s) p none m = absurd m
-expire-ses v t k (is.Open s) p (some ρ) m = rw (m .0, since-same (ρ .mark) t) (go (D.isSilent (v .limits) t (recordOf k ρ)))
+expire-ses v t k (is.Open s) p (some ρ) m = rw (m .1, since-same (ρ .mark) t) (go (D.isSilent (v .limits) t (recordOf k ρ (m .0))))
   where
-    go : (b : Bool) → Ses v k (afterEnd (cond b (end.Ended (D.endingOf (recordOf k ρ) Silence)) end.Stays) (is.Open (recordOf k ρ))) p (cond b none (some ρ))
+    go : (b : Bool) → Ses v k (afterEnd (cond b (end.Ended (D.endingOf (recordOf k ρ (m .0)) Silence)) end.Stays) (is.Open (recordOf k ρ (m .0)))) p (cond b none (some ρ))
     go true = tt
-    go false = (refl, m .1)
+    go false = (m .0, refl, m .2)
 
 pub expire-holds : (limits : IdleLimits) (t k : ℕ) (x : State) → holds k (expiredState limits t x) ≡ true → holds k x ≡ true
 unfolding holds
@@ -61,9 +61,9 @@ expire-holds limits t k (is.Open s) e = go (D.isSilent limits t s) e
     go true e = absurd (clash false e refl)
     go false e = e
 
-end-same : (k : ℕ) (ρ : Open) → endReply (D.endingOf (recordOf k ρ) Silence) ≡ ending k (ρ .told) silent
+end-same : (k : ℕ) (ρ : Open) (x : Kept) → endReply (D.endingOf (recordOf k ρ x) Silence) ≡ ending k (ρ .told) silent
 unfolding endReply ending numberFor reasonFor reasonOf
-end-same k ρ =
+end-same k ρ x =
     ap (λ (w : Option P.Wire). record { number = 22; says = P.ended (keyAt k) (ρ .told .kind) (ρ .told .pgn); sends = w })
     (wire-cond (isRts (ρ .told .kind)) (F.isRts (ρ .told .kind)) (abortFrame k silent (ρ .told .pgn)) (kind-same (ρ .told .kind)))
 
@@ -72,10 +72,10 @@ unfolding endingOf endsAt isSilent
 ends-own v t k is.Closed p none m = refl
 ends-own v t k is.Closed p (some ρ) m = absurd m
 ends-own v t k (is.Open s) p none m = absurd m
-ends-own v t k (is.Open s) p (some ρ) m = rw (m .0, since-same (ρ .mark) t) (go (D.isSilent (v .limits) t (recordOf k ρ)))
+ends-own v t k (is.Open s) p (some ρ) m = rw (m .1, since-same (ρ .mark) t) (go (D.isSilent (v .limits) t (recordOf k ρ (m .0))))
   where
-    go : (b : Bool) → endingOf k (cond b (end.Ended (D.endingOf (recordOf k ρ) Silence)) end.Stays) ≡ cond b (ending k (ρ .told) silent ∷ []) []
-    go true = rw (own-key k) (ap (λ (e : Reply). e ∷ []) (end-same k ρ))
+    go : (b : Bool) → endingOf k (cond b (end.Ended (D.endingOf (recordOf k ρ (m .0)) Silence)) end.Stays) ≡ cond b (ending k (ρ .told) silent ∷ []) []
+    go true = rw (own-key k) (ap (λ (e : Reply). e ∷ []) (end-same k ρ (m .0)))
     go false = refl
 
 pub ends-other : (limits : IdleLimits) (t k : ℕ) (x : State) → holds k x ≡ false → endingOf k (endOf limits t x) ≡ []

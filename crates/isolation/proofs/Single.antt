@@ -1,13 +1,19 @@
 -- One session decides as its rules do. Only this file knows what a session does.
-use Prim.Native.Nat.{ℕ, suc, _+_, _*_, _-_, _/_, _≤_}
+use Prim.Native.Nat.{ℕ, suc, _+_, _*_, _-_, _/_, _≤_, _<_, min}
 use mathlib.Core.Path.{_≡_, refl, sym, ap, ap₂, _∙_, subst}
-use mathlib.Core.Bool.{and-assoc, Bool, true, false, cond, not, _&&_, _||_}
+use mathlib.Core.Logic.{_⊎_, inl, inr}
+use mathlib.Core.Bool.{and-assoc, or-comm, Bool, true, false, cond, not, _&&_, _||_}
 use mathlib.Core.Option.{Option, none, some}
 use mathlib.Core.List.{List, [], _∷_}
 use native.Mathlib.Omega.{arith}
+use native.Mathlib.Decide.{ℕ-discrete}
 use lib.Dec.{eqb, ltb}
 use lib.ListN.{length, take}
-use borrow.Author.Tests.{ltb-false, eqb-true, eqb-false, not-false}
+use borrow.Author.Tests.{ltb-true, ltb-false, lt-ltb, le-ltb, eqb-true, eqb-false, eq-eqb, not-false}
+use Rattle.laws.specs.Bools.{by-test, cond-true, cond-false}
+use Rattle.segments.specs.declared.Segments.{Segments}
+use Rattle.segments.specs.Model.{isIn, isNumber, noneIn, missingOf, firstMissing}
+use Rattle.segments.specs.Laws.{number-of, none-in, in-put, agreed, first-missing}
 use Rattle.frame.specs.Refusals.{numberOf}
 use Rattle.frame.specs.declared.refusal.Refusal.{Refusal}
 use Rattle.frame.specs.declared.refusal.Refusal.the-variants.{AnnouncementForm, KeyNotOpen, FormatIndicator, AlreadyTaken, SegmentCut}
@@ -22,7 +28,9 @@ use Rattle.answer.specs.declared.Answer.{Answer}
 use Rattle.answer.specs.declared.Answer.the-variants as answer
 use Rattle.answer.specs.Answers.{messageBytes, eomaFor}
 use Rattle.answer.specs.Lies.{message-lies}
-use Rattle.progress.specs.Forward.{ctsDue, advancedBy}
+use Rattle.progress.specs.Forward.{ctsDue, nextBy, takenBy, missingBy, advancedBy}
+use Rattle.progress.specs.Requests.{askedCount, requestedBy}
+use Rattle.progress.specs.Asked.{asked-from}
 use Rattle.progress.specs.declared.wait.Wait.the-variants.{First, Second}
 use Rattle.session.specs.declared.Session.{Session}
 use Rattle.session.specs.declared.State.{State}
@@ -35,31 +43,34 @@ use Rattle.session.specs.declared.segment.Judged.{Judged}
 use Rattle.session.specs.declared.segment.Judged.the-variants as judged
 use Rattle.session.specs.Announcements as S
 use Rattle.session.specs.Announcements.{formOf, sessionOf, firstCts}
-use Rattle.session.specs.Segments.{dueOf, judgedOf, nextCts}
-use Rattle.session.specs.Ends.{statusMatches}
+use Rattle.session.specs.Segments.{dueOf, alreadyIn, outOfTurn, judgedOf, nextCts}
+use Rattle.session.specs.Ends.{statusMatches, allIn}
 use Rattle.session.specs.Decisions as D
-use Rattle.session.specs.Decisions.{stays, refused, rejection, isRestart, forKey, onForm, announcedTo, onJudged, segmentTo, messageOf, statusTo, abortTo}
+use Rattle.session.specs.Decisions.{stays, refused, rejection, isRestart, forKey, onForm, announcedTo, onJudged, segmentTo, messageOf, handsOver, statusTo, abortTo}
 use Rattle.session.specs.Bounds.{sessionOk}
-use Rattle.session.specs.InBounds.{KeyTaken, opened-ok, moved-ok, sound-of}
+use Rattle.session.specs.InBounds.{KeyTaken, Sound, opened-ok, moved-ok, asked-ok, sound-of}
+use Rattle.session.specs.Laws.{Taking, takes-taking}
 use Rattle.slots.specs.declared.Found.{Found}
 use Rattle.slots.specs.declared.Found.the-variants.{At, Nothing}
 use Rattle.slots.specs.Slots.{slotFor, stateIn, isAt}
 use Rattle.receiver.specs.declared.Receiver.{Receiver}
 use Rattle.receiver.specs.Calls.{Outcome, apply, stored, storedBy, slotOf}
-use Rattle.isolation.specs.Standard.{Cause, pgnWrong, numbersWrong, tooLong, assured, keyOpen, eightOpen, outOfOrder, unlikeAnnounced, numberFor, inPgnForm}
+use Rattle.isolation.specs.Standard.{Cause, pgnWrong, numbersWrong, tooLong, assured, keyOpen, eightOpen, outOfOrder, unlikeAnnounced, requestsSpent, numberFor, inPgnForm}
 use Rattle.isolation.specs.OwnFrames as F
 use Rattle.isolation.specs.Replies as P
 use Rattle.isolation.specs.Rules as R
 use Rattle.isolation.specs.OwnFrames.{keyAt, Body, announce, segment, status, abort}
 use Rattle.isolation.specs.Replies.{Reply, reject, refuse, abortFrame, ending, cts, plain, sent, handOver, handed}
-use Rattle.isolation.specs.Rules.{Values, Open, Out, Piece, closes, opens, startsAnew, admitted, announced, grant, due, spent, adds, asAnnounced, rule, joined, isTaken}
+use Rattle.isolation.specs.Rules.{Values, Open, Out, Piece, closes, opens, startsAnew, admitted, announced, grant, due, spent, adds, asAnnounced, missingRun, rule, joined, isTaken}
 use Rattle.isolation.specs.Observe.{saysOf, replyOf, touches}
-use Rattle.isolation.proofs.Tests.{or-left, or-right, and-left}
+use Rattle.isolation.proofs.Tests.{or-left, or-right, or-1, or-2, or-either, same-test}
 use Rattle.isolation.proofs.Slots.{other-key}
 use Rattle.isolation.proofs.Bytes.{part, within-self, length-part, take-part, part-paste, within-paste}
 use Rattle.isolation.proofs.Same.{refusalFor, number-same, reason-same, pgn-same, kind-same, grant-same, wait-same, due-same, numbers-same, misdirected-same, eqb-next}
-use Rattle.isolation.proofs.Pieces.{cut, segment-inside, taken-same, joined-cut, cut-next}
-use Rattle.isolation.proofs.Fit.{recordOf, Rel, InSlot, Tied, walk, reply-cond, quiet-cond, wire-cond}
+use Rattle.isolation.proofs.Pieces.{segment-inside}
+use Rattle.isolation.proofs.Gathered.{Gathered, inTo, in-length, joined-gathered, gathered-more}
+use Rattle.isolation.proofs.Recorded.{missing-rest, asked-first, asked-same, below-next}
+use Rattle.isolation.proofs.Fit.{Kept, recordOf, Rel, InSlot, Tied, walk, walk-not, reply-cond, quiet-cond, wire-cond}
 
 -- an own frame's key: addresses that are taken here
 pub record Mine (v : Values) (k : ℕ) : Type 0 where
@@ -71,7 +82,7 @@ pub record Mine (v : Values) (k : ℕ) : Type 0 where
 abbrev pub asked : State → Bool → ℕ → ℕ → Key → Body → Step
 asked y room slot last κ (announce a) = announcedTo y room κ a last
 asked y room slot last κ (segment format n x) = segmentTo y (record { format = format; number = record { 0 = n }; room = length x }) last
-asked y room slot last κ (status st) = statusTo y slot st
+asked y room slot last κ (status st) = statusTo y slot st last
 asked y room slot last κ (abort pgn) = abortTo y pgn
 
 abbrev pub leaves : Body → Step → Found → State → List ℕ → List ℕ → List ℕ
@@ -133,7 +144,7 @@ module _ (v : Values) (k : ℕ) (f : Found) (m : List ℕ) (x : Option Open) (y 
 module _ (v : Values) (k : ℕ) (f : Found) (m : List ℕ) (whole : length m ≡ 32768) (me : Mine v k) (last : ℕ) where
   opens-tied : (x : Option Open) (y : State) (i : ℕ) → f ≡ At i → (a : Announcement) → S.misdirected (keyAt k .da) (a .kind) ≡ false → formOf a ≡ form.Good → a .assurance ≡ 0
       → Tied v k f m x y (D.opening (keyAt k) a last) m (opens k last a)
-  unfolding opens replyOf saysOf touches cts sent cut
+  unfolding opens replyOf saysOf touches cts sent isTaken
   opens-tied x y i e a aimed good sure = record {
     reply = reply-cond m (answer.Grant (firstCts (keyAt k) a)) (answer.Opened (keyAt k)) (isRts (a .kind)) (F.isRts (a .kind))
         (cts k 1 (grant (a .max) (a .segments .0)) (a .pgn)) (plain (P.opened (keyAt k)))
@@ -142,7 +153,16 @@ module _ (v : Values) (k : ℕ) (f : Found) (m : List ℕ) (whole : length m ≡
     changed = record {
       slot = i;
       found = e;
-      ses = (same, record { pieces = refl; plain = sure; fine = subst (λ (s : Session). sessionOk (v .own) s ≡ true) same (opened-ok (v .own) (keyAt k) a last (me .taken) aimed good) });
+      ses = (
+        z,
+        same,
+        record {
+          pieces = tt;
+          same = none-already (isRts (a .kind));
+          plain = sure;
+          fine = subst (λ (s : Session). sessionOk (v .own) s ≡ true) same (opened-ok (v .own) (keyAt k) a last (me .taken) aimed good);
+        },
+      );
       store = within-self i m whole;
     };
   }
@@ -153,10 +173,18 @@ module _ (v : Values) (k : ℕ) (f : Found) (m : List ℕ) (whole : length m ≡
         mark = last;
         wait = cond (F.isRts (a .kind)) First Second;
         granted = cond (F.isRts (a .kind)) (grant (a .max) (a .segments .0)) 0;
+        requests = 0;
         pieces = [];
       }
 
-      same : sessionOf (keyAt k) a last ≡ recordOf k ρ
+      z : Kept
+      z = record { next = cond (isRts (a .kind)) 0 1; taken = noneIn; missing = cond (isRts (a .kind)) (a .segments .0) 0 }
+
+      none-already : (rts : Bool) (n : ℕ) → 1 ≤ n → false ≡ cond rts (isIn noneIn n) (ltb n (cond rts 0 1))
+      none-already true n l = sym (none-in n)
+      none-already false n l = sym (le-ltb n 1 l)
+
+      same : sessionOf (keyAt k) a last ≡ recordOf k ρ z
       same = rw (kind-same (a .kind), grant-same (a .max) (a .segments .0), wait-same (isRts (a .kind)))
 
   -- ---- a key that is closed
@@ -184,75 +212,178 @@ module _ (v : Values) (k : ℕ) (f : Found) (m : List ℕ) (whole : length m ≡
 
 -- ---- a key that is open, in slot i
 
-and-chain : (a b c d e : Bool) → (a && (b && (c && (d && e)))) ≡ (a && b && c && d && e)
-and-chain a b c d e = simp and-assoc
+and-chain : (a b c d : Bool) → (a && (b && (c && d))) ≡ (a && b && c && d)
+and-chain a b c d = simp and-assoc
 
-module _ (v : Values) (k i : ℕ) (low : suc i ≤ 8) (m : List ℕ) (whole : length m ≡ 32768) (me : Mine v k) (ρ : Open) (rel : Rel v k (part i m) ρ) (last : ℕ) where
+-- of two that make up the whole the one is none where the other is all
+rest-test : (a b c : ℕ) → a + b ≡ c → eqb b c ≡ eqb a 0
+rest-test a b c e = same-test (eqb b c) (eqb a 0)
+    (λ h. let z : b ≡ c = eqb-true b c h in eq-eqb a 0 (omega arith))
+    (λ h. let z : a ≡ 0 = eqb-true a 0 h in eq-eqb b c (omega arith))
+
+module _ (v : Values) (k i : ℕ) (low : suc i ≤ 8) (m : List ℕ) (whole : length m ≡ 32768) (me : Mine v k) (ρ : Open) (x : Kept) (rel : Rel v k (part i m) ρ x) (last : ℕ) where
+  abbrev s : Session
+  s = recordOf k ρ x
+
+  abbrev rts : Bool
+  rts = isRts (ρ .told .kind)
+
+  abbrev segments : ℕ
+  segments = ρ .told .segments .0
+
   abbrev Ties : Step → List ℕ → Out → Type 0
-  Ties st m′ q = Tied v k (At i) m (some ρ) (is.Open (recordOf k ρ)) st m′ q
+  Ties st m′ q = Tied v k (At i) m (some ρ) (is.Open s) st m′ q
 
   -- a refusal that ends the session
-  ends-tied : (c : Cause) → Ties (D.ended (recordOf k ρ) (refusalFor c)) m (closes k ρ c)
+  ends-tied : (c : Cause) → Ties (D.ended s (refusalFor c)) m (closes k ρ c)
   unfolding replyOf saysOf touches ending
   ends-tied c = record {
     reply = rw (reason-same c, number-same c) (ap (λ (w : Option P.Wire). record { number = numberFor c; says = P.ended (keyAt k) (ρ .told .kind) (ρ .told .pgn); sends = w })
-        (wire-cond (isRts (ρ .told .kind)) (F.isRts (ρ .told .kind)) (abortFrame k c (ρ .told .pgn)) (kind-same (ρ .told .kind))));
+        (wire-cond rts (F.isRts (ρ .told .kind)) (abortFrame k c (ρ .told .pgn)) (kind-same (ρ .told .kind))));
     only = λ j ne. other-key k j ne;
     changed = record { slot = i; found = refl; ses = tt; store = within-self i m whole };
   }
 
+  sound : Sound (v .own) s
+  sound = sound-of (v .own) s (rel .fine)
+
   most : ρ .told .total .0 ≤ 4096
-  most = sound-of (v .own) (recordOf k ρ) (rel .fine) .agreed .fits
+  most = sound .agreed .fits
 
   count-fact : ρ .told .segments .0 ≡ (ρ .told .total .0 + 59) / 60
-  count-fact = sound-of (v .own) (recordOf k ρ) (rel .fine) .agreed .count
+  count-fact = sound .agreed .count
+
+  -- ---- what is kept of the data taken
+
+  in-record : rts ≡ true → (n : ℕ) → 1 ≤ n → isTaken n (ρ .pieces) ≡ isIn (x .taken) n
+  in-record r n l = rel .same n l ∙ cond-true rts _ _ r
+
+  below : rts ≡ false → (n : ℕ) → 1 ≤ n → isTaken n (ρ .pieces) ≡ ltb n (x .next)
+  below r n l = rel .same n l ∙ cond-false rts _ _ r
+
+  how-many : inTo (ρ .told .segments .0) (ρ .pieces) ≡ length (ρ .pieces)
+  how-many = in-length (ρ .told .total .0) (ρ .told .segments .0) (part i m) (ρ .pieces) (rel .pieces)
+
+  -- the number missing is what is left of an RTS, and a BAM's next is one more than were taken
+  left-missing : rts ≡ true → x .missing + length (ρ .pieces) ≡ ρ .told .segments .0
+  left-missing r =
+      let g : missingOf (x .taken) (ρ .told .segments .0) ≡ x .missing = agreed (x .taken) segments (x .missing) (sound .reached .gathered r .agree) .missing in
+      let h : missingOf (x .taken) (ρ .told .segments .0) + inTo (ρ .told .segments .0) (ρ .pieces) ≡ ρ .told .segments .0 = missing-rest (x .taken) (ρ .pieces) (in-record r) segments in
+      let e : inTo (ρ .told .segments .0) (ρ .pieces) ≡ length (ρ .pieces) = how-many in
+      omega arith
+
+  next-same : rts ≡ false → x .next ≡ length (ρ .pieces) + 1
+  next-same r =
+      let q = sound .reached .sequence r in
+      let a : 1 ≤ x .next = q .low in
+      let b : x .next ≤ ρ .told .segments .0 + 1 = q .high in
+      let h : inTo (ρ .told .segments .0) (ρ .pieces) ≡ min (ρ .told .segments .0) (x .next - 1) = below-next (x .next) (ρ .pieces) (below r) segments in
+      let e : inTo (ρ .told .segments .0) (ρ .pieces) ≡ length (ρ .pieces) = how-many in
+      omega arith
+
+  all-same : eqb (length (ρ .pieces)) (ρ .told .segments .0) ≡ allIn s
+  all-same = by-test rts
+      (λ r. rest-test (x .missing) (length (ρ .pieces)) (ρ .told .segments .0) (left-missing r) ∙ sym (cond-true rts _ _ r))
+      (λ r. eqb-next (length (ρ .pieces)) (ρ .told .segments .0) ∙ ap (λ (n : ℕ). eqb n (ρ .told .segments .0 + 1)) (sym (next-same r)) ∙ sym (cond-false rts _ _ r))
 
   -- ---- end of message
 
-  status-same : (st : Status) → asAnnounced ρ st ≡ statusMatches (recordOf k ρ) st
+  status-same : (st : Status) → asAnnounced ρ st ≡ statusMatches s st
   unfolding asAnnounced
   status-same st =
-      rw (rel .plain, eqb-next (length (ρ .pieces)) (ρ .told .segments .0))
-      (and-chain (eqb (length (ρ .pieces) + 1) (ρ .told .segments .0 + 1)) (eqb (st .total .0) (ρ .told .total .0))
-      (eqb (st .segments .0) (ρ .told .segments .0)) (eqb (st .assurance) 0) (eqb (st .pgn) (ρ .told .pgn)))
+      rw (rel .plain)
+      (and-chain (eqb (st .total .0) (ρ .told .total .0)) (eqb (st .segments .0) (ρ .told .segments .0)) (eqb (st .assurance) 0) (eqb (st .pgn) (ρ .told .pgn)))
 
-  all-in : (st : Status) → statusMatches (recordOf k ρ) st ≡ true → length (ρ .pieces) + 1 ≡ ρ .told .segments .0 + 1
-  all-in st e =
-      let a : Bool = eqb (length (ρ .pieces) + 1) (ρ .told .segments .0 + 1) in
-      let b : Bool = eqb (st .total .0) (ρ .told .total .0) in
-      let c : Bool = eqb (st .segments .0) (ρ .told .segments .0) in
-      let d : Bool = eqb (st .assurance) 0 in
-      eqb-true (length (ρ .pieces) + 1) (ρ .told .segments .0 + 1)
-      (and-left a b (and-left (a && b) c (and-left (a && b && c) d (and-left (a && b && c && d) (eqb (st .pgn) (ρ .told .pgn)) e))))
-
-  bytes-fact : length (ρ .pieces) ≡ ρ .told .segments .0 → messageBytes (messageOf i (recordOf k ρ)) m ≡ joined (ρ .told .segments .0) (ρ .pieces)
+  bytes-fact : length (ρ .pieces) ≡ ρ .told .segments .0 → messageBytes (messageOf i s) m ≡ joined (ρ .told .segments .0) (ρ .pieces)
   bytes-fact e =
       take-part m whole i low (ρ .told .total .0) most
-      ∙ sym (joined-cut (ρ .told .total .0) (ρ .told .segments .0) (part i m) count-fact)
-      ∙ ap (λ (n : ℕ). joined (ρ .told .segments .0) (cut (ρ .told .total .0) n (part i m))) (sym e)
-      ∙ ap (joined (ρ .told .segments .0)) (sym (rel .pieces))
+      ∙ sym (joined-gathered (ρ .told .total .0) (ρ .told .segments .0) (part i m) (ρ .pieces) count-fact (rel .pieces) e)
 
-  handed-tied : length (ρ .pieces) ≡ ρ .told .segments .0
-      → Ties (record { change = change.Ends; answer = answer.HandedOver (messageOf i (recordOf k ρ)) }) m (none, handOver k (ρ .told) (joined (ρ .told .segments .0) (ρ .pieces)))
+  handed-tied : length (ρ .pieces) ≡ ρ .told .segments .0 → Ties (handsOver i s) m (none, handOver k (ρ .told) (joined (ρ .told .segments .0) (ρ .pieces)))
   unfolding replyOf saysOf touches handOver
   handed-tied e = record {
     reply = ap₂ (λ (b : List ℕ) (w : Option P.Wire). record { number = 0; says = handed (keyAt k) (ρ .told .kind) (ρ .told .total .0) (ρ .told .segments .0) (ρ .told .pgn) b; sends = w })
-        (message-lies (messageOf i (recordOf k ρ)) [] m low most whole ∙ bytes-fact e)
-        (wire-cond (isRts (ρ .told .kind)) (F.isRts (ρ .told .kind)) (eomaFor (messageOf i (recordOf k ρ))) (kind-same (ρ .told .kind)));
+        (message-lies (messageOf i s) [] m low most whole ∙ bytes-fact e)
+        (wire-cond rts (F.isRts (ρ .told .kind)) (eomaFor (messageOf i s)) (kind-same (ρ .told .kind)));
     only = λ j ne. other-key k j ne;
     changed = record { slot = i; found = refl; ses = tt; store = within-self i m whole };
   }
 
-  status-tied : (st : Status) → Ties (D.statusOpen (recordOf k ρ) i st) m (R.statusOpen k ρ st)
+  -- ---- what is missing is asked for: 02, E6
+
+  module _ (r : rts ≡ true) (short : allIn s ≡ false) (few : ltb (ρ .requests) 5 ≡ true) where
+    some-missing : 0 < missingOf (x .taken) (ρ .told .segments .0)
+    some-missing =
+        let g : missingOf (x .taken) (ρ .told .segments .0) ≡ x .missing = agreed (x .taken) segments (x .missing) (sound .reached .gathered r .agree) .missing in
+        let n : x .missing ≡ 0 → ⊥ = eqb-false (x .missing) 0 (sym (cond-true rts _ _ r) ∙ short) in
+        omega arith
+
+    first-asked : R.firstMissing segments 1 (ρ .pieces) ≡ firstMissing (x .taken) segments
+    first-asked = asked-first (x .taken) (ρ .pieces) (in-record r) segments (ρ .told .max)
+
+    count-asked : grant (ρ .told .max) (missingRun (segments + 1 - R.firstMissing segments 1 (ρ .pieces)) (R.firstMissing segments 1 (ρ .pieces)) (ρ .pieces))
+        ≡ askedCount (x .taken) segments (ρ .told .max)
+    count-asked = asked-same (x .taken) (ρ .pieces) (in-record r) segments (ρ .told .max) (asked-from (x .taken) segments (ρ .told .max)) (first-missing (x .taken) segments some-missing)
+
+    asks-tied : Ties (D.asks s last) m (R.asks k last ρ)
+    unfolding R.asks replyOf saysOf touches cts sent
+    asks-tied = record {
+      reply = rw (count-asked, first-asked);
+      only = λ j ne. other-key k j ne;
+      changed = record {
+        slot = i;
+        found = refl;
+        ses = (
+          x,
+          same,
+          record {
+            pieces = rel .pieces;
+            same = rel .same;
+            plain = rel .plain;
+            fine = subst (λ (z : Session). sessionOk (v .own) z ≡ true) same (asked-ok (v .own) s last (rel .fine) r short few);
+          },
+        );
+        store = within-self i m whole;
+      };
+    }
+      where
+        ρ′ : Open
+        ρ′ = record {
+          told = ρ .told;
+          mark = last;
+          wait = First;
+          granted =
+              R.firstMissing segments 1 (ρ .pieces)
+              + grant (ρ .told .max) (missingRun (segments + 1 - R.firstMissing segments 1 (ρ .pieces)) (R.firstMissing segments 1 (ρ .pieces)) (ρ .pieces))
+              - 1;
+          requests = ρ .requests + 1;
+          pieces = ρ .pieces;
+        }
+
+        same : record { announced = s .announced; progress = requestedBy (s .progress) (s .announced) last } ≡ recordOf k ρ′ x
+        same = rw (count-asked, first-asked)
+
+  lacks-tied : allIn s ≡ false → Ties (D.lacks s last) m (R.lacks k last ρ)
+  unfolding R.lacks
+  lacks-tied short =
+      walk-not (λ (z : Step) (q : Out). Ties z m q) rts (not (F.isRts (ρ .told .kind))) (ap not (kind-same (ρ .told .kind)))
+      (λ r.
+      walk (λ (z : Step) (q : Out). Ties z m q) (ltb (ρ .requests) 5) (ltb (ρ .requests) 5) refl
+      (λ few. asks-tied r short few) (λ _. ends-tied requestsSpent))
+      (λ _. ends-tied unlikeAnnounced)
+
+  status-tied : (st : Status) → Ties (D.statusOpen s i st last) m (R.statusOpen k last ρ st)
   unfolding R.statusOpen
   status-tied st =
-      walk (λ (z : Step) (q : Out). Ties z m q) (statusMatches (recordOf k ρ) st) (asAnnounced ρ st) (status-same st)
-      (λ all. let e : length (ρ .pieces) + 1 ≡ ρ .told .segments .0 + 1 = all-in st all in handed-tied (omega arith))
+      walk-not (λ (z : Step) (q : Out). Ties z m q) (statusMatches s st) (not (asAnnounced ρ st)) (ap not (status-same st))
+      (λ _.
+      walk (λ (z : Step) (q : Out). Ties z m q) (allIn s) (eqb (length (ρ .pieces)) (ρ .told .segments .0)) all-same
+      (λ all. handed-tied (eqb-true (length (ρ .pieces)) (ρ .told .segments .0) (all-same ∙ all))) lacks-tied)
       (λ _. ends-tied unlikeAnnounced)
 
   -- ---- an Abort
 
-  abort-tied : (pgn : ℕ) → Ties (D.abortOpen (recordOf k ρ) pgn) m (R.abortOpen k ρ pgn)
+  abort-tied : (pgn : ℕ) → Ties (D.abortOpen s pgn) m (R.abortOpen k ρ pgn)
   unfolding R.abortOpen replyOf saysOf touches
   abort-tied pgn =
       walk (λ (z : Step) (q : Out). Ties z m q) (eqb pgn (ρ .told .pgn)) (eqb pgn (ρ .told .pgn)) refl
@@ -261,39 +392,48 @@ module _ (v : Values) (k i : ℕ) (low : suc i ≤ 8) (m : List ℕ) (whole : le
         only = λ j ne. other-key k j ne;
         changed = record { slot = i; found = refl; ses = tt; store = within-self i m whole };
       })
-      (λ _. refuse-tied v k (At i) m (some ρ) (is.Open (recordOf k ρ)) KeyNotOpen)
+      (λ _. refuse-tied v k (At i) m (some ρ) (is.Open s) KeyNotOpen)
 
   -- ---- a segment
 
-  spent-same : (n : ℕ) → spent ρ n ≡ ctsDue (recordOf k ρ .progress) (recordOf k ρ .announced) n
+  spent-same : (n : ℕ) → spent ρ n ≡ ctsDue (s .progress) (s .announced) n
   unfolding spent
-  spent-same n = rw (kind-same (ρ .told .kind)) (sym (and-assoc (isRts (ρ .told .kind)) (eqb n (ρ .granted)) (ltb n (ρ .told .segments .0))))
+  spent-same n =
+      rw (kind-same (ρ .told .kind)) (and-chain rts (eqb n (ρ .granted)) (ltb n (ρ .told .segments .0)) (eqb (ρ .requests) 0))
 
-  -- the next segment, with the data due
-  adds-next : (d : List ℕ) (room : ℕ) → judgedOf (recordOf k ρ) (suc (length (ρ .pieces))) room ≡ judged.Takes
-      → suc (length (ρ .pieces)) ≤ ρ .told .segments .0 → dueOf (ρ .told .total .0) (suc (length (ρ .pieces))) ≤ length (dataAt d)
-      → Ties (D.taken (recordOf k ρ) (suc (length (ρ .pieces))) last) (stored i (recordOf k ρ) (suc (length (ρ .pieces))) d m) (adds k last ρ (suc (length (ρ .pieces))) (dataAt d))
-  unfolding adds replyOf saysOf touches cts sent
-  adds-next d room takes small enough = record {
-    reply = reply-cond _ (answer.Grant (nextCts (recordOf k ρ .announced) n)) (answer.Taken (record { key = keyAt k; number = record { 0 = n } }))
-        (ctsDue (recordOf k ρ .progress) (recordOf k ρ .announced) n) (spent ρ n)
+  -- the data due is added, and the segment is known as taken from then on
+  adds-tied : (n : ℕ) (d : List ℕ) (room : ℕ) → judgedOf s n room ≡ judged.Takes → isTaken n (ρ .pieces) ≡ false → dueOf (ρ .told .total .0) n ≤ length (dataAt d)
+      → Ties (D.taken s n last) (stored i s n d m) (adds k last ρ n (dataAt d))
+  unfolding adds replyOf saysOf touches cts sent isTaken
+  adds-tied n d room takes new enough = record {
+    reply = reply-cond _ (answer.Grant (nextCts (s .announced) n)) (answer.Taken (record { key = keyAt k; number = record { 0 = n } }))
+        (ctsDue (s .progress) (s .announced) n) (spent ρ n)
         (cts k (n + 1) (grant (ρ .told .max) (ρ .told .segments .0 - n)) (ρ .told .pgn)) (plain (P.took (keyAt k) n))
         (spent-same n) (rw (grant-same (ρ .told .max) (ρ .told .segments .0 - n))) refl;
-    only = λ j ne. quiet-cond j (ctsDue (recordOf k ρ .progress) (recordOf k ρ .announced) n) (answer.Grant (nextCts (recordOf k ρ .announced) n))
+    only = λ j ne. quiet-cond j (ctsDue (s .progress) (s .announced) n) (answer.Grant (nextCts (s .announced) n))
         (answer.Taken (record { key = keyAt k; number = record { 0 = n } })) (other-key k j ne) (other-key k j ne);
     changed = record {
       slot = i;
       found = refl;
-      ses = (same, record { pieces = pieces; plain = rel .plain; fine = subst (λ (s : Session). sessionOk (v .own) s ≡ true) same (moved-ok (v .own) (recordOf k ρ) n room last (rel .fine) takes) });
+      ses = (
+        x′,
+        same,
+        record {
+          pieces = pieces;
+          same = known;
+          plain = rel .plain;
+          fine = subst (λ (z : Session). sessionOk (v .own) z ≡ true) same (moved-ok (v .own) s n room last (rel .fine) takes);
+        },
+      );
       store = within-paste m whole i low (60 * (n - 1)) (dataAt d) (dueOf total n) fits enough;
     };
   }
     where
-      n : ℕ
-      n = suc (length (ρ .pieces))
-
       total : ℕ
       total = ρ .told .total .0
+
+      turn : Taking s n room
+      turn = takes-taking s n room takes
 
       ρ′ : Open
       ρ′ = record {
@@ -301,82 +441,119 @@ module _ (v : Values) (k i : ℕ) (low : suc i ≤ 8) (m : List ℕ) (whole : le
         mark = last;
         wait = cond (spent ρ n) First Second;
         granted = cond (spent ρ n) (n + grant (ρ .told .max) (ρ .told .segments .0 - n)) (ρ .granted);
+        requests = ρ .requests;
         pieces = record { number = n; bytes = take (due total n) (dataAt d) } ∷ ρ .pieces;
       }
 
-      same : record { announced = recordOf k ρ .announced; progress = advancedBy (recordOf k ρ .progress) (recordOf k ρ .announced) n last } ≡ recordOf k ρ′
-      same = rw (spent-same n, grant-same (ρ .told .max) (ρ .told .segments .0 - n), wait-same (ctsDue (recordOf k ρ .progress) (recordOf k ρ .announced) n))
+      x′ : Kept
+      x′ = record { next = nextBy (ρ .told .kind) (x .next) n; taken = takenBy (ρ .told .kind) (x .taken) n; missing = missingBy (ρ .told .kind) (x .missing) }
 
-      fits : 60 * (suc (length (ρ .pieces)) - 1) + dueOf (ρ .told .total .0) (suc (length (ρ .pieces))) ≤ 4096
+      same : record { announced = s .announced; progress = advancedBy (s .progress) (s .announced) n last } ≡ recordOf k ρ′ x′
+      same = rw (spent-same n, grant-same (ρ .told .max) (ρ .told .segments .0 - n), wait-same (ctsDue (s .progress) (s .announced) n))
+
+      fits : 60 * (n - 1) + dueOf (ρ .told .total .0) n ≤ 4096
       fits =
-          let z = segment-inside (ρ .told .total .0) (ρ .told .segments .0) (suc (length (ρ .pieces))) count-fact (omega arith) small in
+          let z : 60 * (n - 1) + dueOf (ρ .told .total .0) n ≤ ρ .told .total .0 = segment-inside total segments n count-fact (turn .low) (turn .high) in
           let y : ρ .told .total .0 ≤ 4096 = most in
           omega arith
 
-      pieces : record { number = n; bytes = take (due total n) (dataAt d) } ∷ ρ .pieces ≡ cut total (suc (length (ρ .pieces))) (part i (stored i (recordOf k ρ) n d m))
+      pieces : Gathered total segments (part i (stored i s n d m)) (record { number = n; bytes = take (due total n) (dataAt d) } ∷ ρ .pieces)
       pieces =
-          let g : suc (length (ρ .pieces)) - 1 ≡ length (ρ .pieces) = omega arith in
           let size : length (part i m) ≡ 4096 = length-part m whole i low in
-          let f = fits in
-          rw (due-same total n (omega arith), part-paste m whole i low (60 * (n - 1)) (dataAt d) (dueOf total n) fits enough, g)
-          (sym (cut-next total (length (ρ .pieces)) (part i m) (dataAt d) (omega arith) enough
-          ∙ ap (λ (t : List Piece). record { number = n; bytes = take (dueOf total n) (dataAt d) } ∷ t) (sym (rel .pieces))))
+          let f : ρ .told .total .0 ≤ 4096 = most in
+          rw (due-same total n (turn .low), part-paste m whole i low (60 * (n - 1)) (dataAt d) (dueOf total n) fits enough)
+          (gathered-more total segments n (part i m) (dataAt d) count-fact (turn .low) (turn .high) (omega arith) enough (ρ .pieces) (rel .pieces) new)
 
-  adds-tied : (n : ℕ) (d : List ℕ) (room : ℕ) → judgedOf (recordOf k ρ) n room ≡ judged.Takes → n ≡ suc (length (ρ .pieces))
-      → n ≤ ρ .told .segments .0 → dueOf (ρ .told .total .0) n ≤ length (dataAt d)
-      → Ties (D.taken (recordOf k ρ) n last) (stored i (recordOf k ρ) n d m) (adds k last ρ n (dataAt d))
-  adds-tied n d room takes e small enough = rw e (adds-next d room (rw e at takes) (rw e at small) (rw e at enough))
+      -- in the record of an RTS, and below the next of a BAM
+      known : (j : ℕ) → 1 ≤ j → isTaken j (record { number = n; bytes = take (due total n) (dataAt d) } ∷ ρ .pieces) ≡ alreadyIn (recordOf k ρ′ x′) j
+      known j l = by-test rts
+          (λ r.
+          let number : isNumber n ≡ true = number-of n (turn .low) (few-of segments (turn .high) (agreed (x .taken) segments (x .missing) (sound .reached .gathered r .agree) .most)) in
+          ap (λ (t : Bool). eqb n j || t) (in-record r j l)
+          ∙ swapped (eqb n j) (eqb j n) (isIn (x .taken) j) (same-test (eqb n j) (eqb j n) (λ h. eq-eqb j n (sym (eqb-true n j h))) (λ h. eq-eqb n j (sym (eqb-true j n h))))
+          ∙ sym (in-put (x .taken) n number j)
+          ∙ ap (λ (z : Segments). isIn z j) (sym (cond-true rts _ _ r))
+          ∙ sym (cond-true rts _ _ r))
+          (λ r.
+          ap (λ (t : Bool). eqb n j || t) (below r j l)
+          ∙ next-test j n (x .next) (turn .next r)
+          ∙ ap (ltb j) (sym (cond-false rts _ _ r))
+          ∙ sym (cond-false rts _ _ r))
+        where
+          few-of : (c : ℕ) → n ≤ c → c ≤ 69 → n ≤ 69
+          few-of c a b = omega arith
+
+          swapped : (a b t : Bool) → a ≡ b → (a || t) ≡ (t || b)
+          swapped a b t e = rw e (or-comm b t)
+
+          next-test : (j n next : ℕ) → n ≡ next → (eqb n j || ltb j next) ≡ ltb j (n + 1)
+          next-test j n next e = same-test (eqb n j || ltb j next) (ltb j (n + 1)) there back
+            where
+              there : (eqb n j || ltb j next) ≡ true → ltb j (n + 1) ≡ true
+              there h = go (or-either (eqb n j) (ltb j next) h)
+                where
+                  go : (eqb n j ≡ true) ⊎ (ltb j next ≡ true) → ltb j (n + 1) ≡ true
+                  go (inl f) = let z : n ≡ j = eqb-true n j f in lt-ltb j (n + 1) (omega arith)
+                  go (inr f) = let z : j < next = ltb-true j next f in lt-ltb j (n + 1) (omega arith)
+
+              back : ltb j (n + 1) ≡ true → (eqb n j || ltb j next) ≡ true
+              back h = go (ℕ-discrete n j)
+                where
+                  go : Dec (n ≡ j) → (eqb n j || ltb j next) ≡ true
+                  go (yes z) = or-1 _ _ (eq-eqb n j z)
+                  go (no z) = let y : j < n + 1 = ltb-true j (n + 1) h in or-2 (eqb n j) _ (lt-ltb j next (omega arith))
+
+  turn-same : (n : ℕ) → R.outOfTurn ρ n ≡ outOfTurn s n
+  unfolding R.outOfTurn
+  turn-same n = rw (kind-same (ρ .told .kind)) (by-test rts (λ r. rw r) (λ r. ap (λ (z : ℕ). not rts && ltb z n) (sym (next-same r))))
 
   segment-tied : (n : ℕ) (d : List ℕ)
-      → let st : Step = D.segmentOpen (recordOf k ρ) n (length (dataAt d)) last in
-      Ties st (storedBy (st .change) (At i) (is.Open (recordOf k ρ)) n d m) (R.segmentOpen k last ρ n (dataAt d))
+      → let st : Step = D.segmentOpen s n (length (dataAt d)) last in
+      Ties st (storedBy (st .change) (At i) (is.Open s) n d m) (R.segmentOpen k last ρ n (dataAt d))
   unfolding R.segmentOpen judgedOf
   segment-tied n d =
-      walk Judges (eqb n 0 || ltb n next) (eqb n 0 || isTaken n (ρ .pieces)) before (λ _. refuse-tied v k (At i) m (some ρ) (is.Open (recordOf k ρ)) AlreadyTaken) (λ a.
-      walk Judges (ltb next n || ltb (ρ .told .segments .0) n) (ltb next n || ltb (ρ .told .segments .0) n) refl (λ _. ends-tied outOfOrder) (λ b.
-      let l₀ : n ≡ 0 → ⊥ = eqb-false n 0 (or-left (eqb n 0) (ltb n next) a) in
-      let l₁ : next ≤ n = ltb-false n next (or-right (eqb n 0) (ltb n next) a) in
-      let l₂ : n ≤ next = ltb-false next n (or-left (ltb next n) (ltb (ρ .told .segments .0) n) b) in
-      let l₃ : n ≤ ρ .told .segments .0 = ltb-false (ρ .told .segments .0) n (or-right (ltb next n) (ltb (ρ .told .segments .0) n) b) in
+      walk Judges (eqb n 0 || alreadyIn s n) (eqb n 0 || isTaken n (ρ .pieces)) before (λ _. refuse-tied v k (At i) m (some ρ) (is.Open s) AlreadyTaken) (λ a.
+      walk Judges (outOfTurn s n || ltb (ρ .told .segments .0) n) (R.outOfTurn ρ n || ltb (ρ .told .segments .0) n) turn (λ _. ends-tied outOfOrder) (λ b.
+      let l₀ : n ≡ 0 → ⊥ = eqb-false n 0 (or-left (eqb n 0) (alreadyIn s n) a) in
       walk Judges (ltb (length (dataAt d)) (dueOf (ρ .told .total .0) n)) (ltb (length (dataAt d)) (due (ρ .told .total .0) n))
-      (rw (due-same (ρ .told .total .0) n (omega arith))) (λ _. refuse-tied v k (At i) m (some ρ) (is.Open (recordOf k ρ)) SegmentCut) (λ c.
-      adds-tied n d (length (dataAt d)) (rw (a, b, c)) (omega arith) l₃ (ltb-false (length (dataAt d)) (dueOf (ρ .told .total .0) n) c))))
+      (rw (due-same (ρ .told .total .0) n (omega arith))) (λ _. refuse-tied v k (At i) m (some ρ) (is.Open s) SegmentCut) (λ c.
+      adds-tied n d (length (dataAt d)) (rw (a, b, c)) (or-right (eqb n 0) (isTaken n (ρ .pieces)) (before ∙ a)) (ltb-false (length (dataAt d)) (dueOf (ρ .told .total .0) n) c))))
     where
       Judges : Judged → Out → Type 0
-      Judges j q = let st : Step = onJudged j (recordOf k ρ) n last in Ties st (storedBy (st .change) (At i) (is.Open (recordOf k ρ)) n d m) q
+      Judges j q = let st : Step = onJudged j s n last in Ties st (storedBy (st .change) (At i) (is.Open s) n d m) q
 
-      next : ℕ
-      next = length (ρ .pieces) + 1
+      before : (eqb n 0 || isTaken n (ρ .pieces)) ≡ (eqb n 0 || alreadyIn s n)
+      before = by-test (eqb n 0)
+          (λ z. rw z)
+          (λ z. let l : n ≡ 0 → ⊥ = eqb-false n 0 z in ap (λ (t : Bool). eqb n 0 || t) (rel .same n (omega arith)))
 
-      before : (eqb n 0 || isTaken n (ρ .pieces)) ≡ (eqb n 0 || ltb n (length (ρ .pieces) + 1))
-      before =
-          ap (λ (xs : List Piece). eqb n 0 || isTaken n xs) (rel .pieces)
-          ∙ taken-same (ρ .told .total .0) (length (ρ .pieces)) (part i m) n
+      turn : (R.outOfTurn ρ n || ltb (ρ .told .segments .0) n) ≡ (outOfTurn s n || ltb (ρ .told .segments .0) n)
+      turn = ap (λ (t : Bool). t || ltb (ρ .told .segments .0) n) (turn-same n)
 
   -- ---- an announcement: the RTS of the session once more starts it anew (02, E1), all else is 14
 
-  anew-same : (a : Announcement) → startsAnew a ρ ≡ isRestart (recordOf k ρ) a
+  anew-same : (a : Announcement) → startsAnew a ρ ≡ isRestart s a
   unfolding startsAnew
   anew-same a = ap (λ (t : Bool). t && eqb (a .pgn) (ρ .told .pgn)) (kind-same (a .kind))
 
   again-tied : (eight room : Bool) (a : Announcement) → S.misdirected (keyAt k .da) (a .kind) ≡ false → formOf a ≡ form.Good → a .assurance ≡ 0
-      → Ties (forKey (is.Open (recordOf k ρ)) room (keyAt k) a last) m (admitted k last eight (some ρ) a)
+      → Ties (forKey (is.Open s) room (keyAt k) a last) m (admitted k last eight (some ρ) a)
   unfolding admitted
   again-tied eight room a aimed good sure =
-      walk (λ (z : Step) (q : Out). Ties z m q) (isRestart (recordOf k ρ) a) (startsAnew a ρ) (anew-same a)
-      (λ _. opens-tied v k (At i) m whole me last (some ρ) (is.Open (recordOf k ρ)) i refl a aimed good sure)
-      (λ _. reject-tied v k (At i) m (some ρ) (is.Open (recordOf k ρ)) a keyOpen)
+      walk (λ (z : Step) (q : Out). Ties z m q) (isRestart s a) (startsAnew a ρ) (anew-same a)
+      (λ _. opens-tied v k (At i) m whole me last (some ρ) (is.Open s) i refl a aimed good sure)
+      (λ _. reject-tied v k (At i) m (some ρ) (is.Open s) a keyOpen)
 
   -- ---- an own frame, by what it says
 
   pub held-tied : (eight room : Bool) (b : Body) (d : List ℕ) → Reads d b
-      → let y : State = is.Open (recordOf k ρ) in
+      → let y : State = is.Open s in
       Ties (asked y room i last (keyAt k) b) (leaves b (asked y room i last (keyAt k) b) (At i) y d m) (rule v k last eight (some ρ) b)
   unfolding rule segmentTo statusTo abortTo
   held-tied eight room (announce a) d e =
-      announce-tied v k (At i) m (some ρ) (is.Open (recordOf k ρ)) me eight room last a (again-tied eight room a)
+      announce-tied v k (At i) m (some ρ) (is.Open s) me eight room last a (again-tied eight room a)
   held-tied eight room (segment format n z) d e =
-      rw e (walk (λ (st : Step) (q : Out). Ties st (storedBy (st .change) (At i) (is.Open (recordOf k ρ)) n d m) q) (not (eqb format 0)) (not (eqb format 0)) refl
-      (λ _. refuse-tied v k (At i) m (some ρ) (is.Open (recordOf k ρ)) FormatIndicator) (λ _. segment-tied n d))
+      rw e (walk (λ (st : Step) (q : Out). Ties st (storedBy (st .change) (At i) (is.Open s) n d m) q) (not (eqb format 0)) (not (eqb format 0)) refl
+      (λ _. refuse-tied v k (At i) m (some ρ) (is.Open s) FormatIndicator) (λ _. segment-tied n d))
   held-tied eight room (status st) d e = status-tied st
   held-tied eight room (abort pgn) d e = abort-tied pgn

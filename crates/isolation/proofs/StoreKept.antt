@@ -23,7 +23,7 @@ use Rattle.session.specs.declared.Change.{Change}
 use Rattle.session.specs.declared.Change.the-variants.{Stays, Opens, Moves, Ends}
 use Rattle.session.specs.Segments.{dueOf}
 use Rattle.session.specs.Decisions.{refused as refuse, ifOpen, segmentOpen, segmentTo}
-use Rattle.session.specs.Laws.{InTurn, takes-in-turn, taken-inside}
+use Rattle.session.specs.Laws.{Taking, takes-taking, taken-inside}
 use Rattle.session.specs.InBounds.{Sound, sound-of}
 use Rattle.session.specs.Bounds.{stateOk}
 use Rattle.session.specs.Steps.{moves-takes}
@@ -88,7 +88,7 @@ module _ (r : Receiver) (k : ℕ) (m : List ℕ) (bounds : inBounds r ≡ true) 
         → Writes r k n x m (stored i s n d m)
     written i s p e y c =
         let takes = moves-takes sg (r .last) s p c in
-        let turn : InTurn s n (length x) = takes-in-turn s n (length x) takes in
+        let turn : Taking s n (length x) = takes-taking s n (length x) takes in
         let sound : Sound (r .own) s = sound-in r bounds i s y in
         let f : i < length (r .slots) = find-some k (r .slots) i (held-in r k i s e y) .1 in
         let one : 1 ≤ n = turn .low in

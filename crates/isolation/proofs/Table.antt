@@ -10,6 +10,8 @@ use Rattle.transport.specs.declared.Kind.the-variants.{Rts}
 use Rattle.transport.specs.Control.{controlOf}
 use Rattle.transport.specs.Segments.{dataFrameOf}
 use Rattle.progress.specs.Forward.{grantOf}
+use Rattle.segments.specs.Digits.{digit}
+use Rattle.segments.specs.Model.{isIn, noneIn, missingOf}
 use Rattle.progress.specs.declared.wait.Wait.{Wait}
 use Rattle.progress.specs.declared.wait.Wait.the-variants.{First, Second}
 use Rattle.progress.specs.declared.wait.IdleLimits.{IdleLimits}
@@ -90,7 +92,7 @@ session wait =
         max = 255;
         pgn = 65226;
       };
-      progress = record { next = record { 0 = 1 }; granted = record { 0 = 2 }; mark = 4294967290; wait = wait };
+      progress = record { next = record { 0 = 0 }; taken = noneIn; missing = 2; requests = 0; granted = record { 0 = 2 }; mark = 4294967290; wait = wait };
     }
 
 pub limits : IdleLimits
@@ -145,7 +147,7 @@ pub record Rows : Type 0 where
 
 pub rows : Rows
 unfolding r m key rts toRts opened inBounds slotsOk frameAll judged byFormat controlStep controlOf announceStep formOf announcedTo
-    grantOf allGrants grants countOf dt dataFrameOf segmentStep segmentTo judgedOf dueOf session limits held readingStep elapsed
+    grantOf allGrants grants countOf dt dataFrameOf segmentStep segmentTo judgedOf isIn missingOf digit dueOf session limits held readingStep elapsed
 rows =
     record {
       p8 = refl;

@@ -126,7 +126,7 @@ starts y room slot last κ (abort pgn) = abort-starts y κ pgn last
 meets : (y : State) (room : Bool) (slot last : ℕ) (κ : Key) (b : Body) → MeetsOpen (asked y room slot last κ b .change) y
 meets y room slot last κ (announce a) = announce-meets y room κ a last
 meets y room slot last κ (segment format n x) = segment-meets _ last y
-meets y room slot last κ (status st) = status-meets y slot st
+meets y room slot last κ (status st) = status-meets y slot st last
 meets y room slot last κ (abort pgn) = abort-meets y pgn
 
 -- without a slot nothing opens or moves on

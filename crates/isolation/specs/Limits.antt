@@ -1,11 +1,13 @@
--- When a record is in bounds, fact by fact: 01, "Numbered refusals", what it says of a state in bounds. Rounding and the form of a PGN are
--- the rules' own.
-use Prim.Native.Nat.{ℕ, _+_, _≤_}
+-- When a record is in bounds, fact by fact: 01, "Numbered refusals", what it says of a state in bounds, and 02, E4 and E6. Rounding, the form
+-- of a PGN and the count over a record of segments are the rules' own.
+use Prim.Native.Nat.{ℕ, zero, suc, _+_, _*_, _/_, _%_, _^_, _≤_, _<_}
 use mathlib.Core.Path.{_≡_}
-use mathlib.Core.Logic.{_⊎_}
 use mathlib.Core.Bool.{true, false, cond}
+use lib.Dec.{eqb}
 use lib.ListN.{getD}
 use Rattle.frame.specs.declared.Address.{Address}
+use Rattle.segments.specs.declared.Segments.{Segments}
+use Rattle.progress.specs.declared.Progress.{Progress}
 use Rattle.progress.specs.declared.wait.Wait.the-variants.{Second}
 use Rattle.session.specs.declared.Session.{Session}
 use Rattle.session.specs.declared.State.the-variants as slot
@@ -14,6 +16,19 @@ use Rattle.receiver.specs.declared.Receiver.{Receiver}
 use Rattle.isolation.specs.Standard.{inPgnForm}
 use Rattle.isolation.specs.OwnFrames.{isRts}
 use Rattle.isolation.specs.Rules.{sixties}
+
+-- how many of the segments 1 to n have no bit in the record: bit n - 1 is segment n's
+unfoldable pub absent : Segments → ℕ → ℕ
+absent t zero = 0
+absent t (suc n) = absent t n + cond (eqb ((t .high * 2 ^ 64 + t .low) / 2 ^ n % 2) 1) 0 1
+
+-- an RTS's record of segments, and what goes with it; no bit of the record is set past the count
+pub record GatheredIn (p : Progress) (segments : ℕ) : Type 0 where
+  pub past : p .taken .high * 2 ^ 64 + p .taken .low < 2 ^ segments
+  pub missing : p .missing ≡ absent (p .taken) segments
+  pub requests : p .requests ≤ 5
+  pub granted-low : 1 ≤ p .granted .0
+  pub granted-high : p .granted .0 ≤ segments
 
 -- an open session
 pub record SessionIn (own : Address) (s : Session) : Type 0 where
@@ -28,13 +43,12 @@ pub record SessionIn (own : Address) (s : Session) : Type 0 where
   pub sa-other : s .announced .key .sa .0 ≡ own .0 → ⊥
   pub da : s .announced .key .da .0 ≡ cond (isRts (s .announced .kind)) (own .0) 255
   pub session : s .announced .key .session .0 ≤ 15
-  -- the next segment, and for RTS the last granted
-  pub next-low : 1 ≤ s .progress .next .0
-  pub next-high : s .progress .next .0 ≤ s .announced .segments .0 + 1
-  pub granted : isRts (s .announced .kind) ≡ true
-      → ((s .progress .next .0 ≤ s .progress .granted .0) × (s .progress .granted .0 ≤ s .announced .segments .0))
-      ⊎ ((s .progress .next .0 ≡ s .announced .segments .0 + 1) × (s .progress .granted .0 ≡ s .announced .segments .0))
-  -- 02, E4: of the two waits a BAM has the second only
+  -- 02, E6: an RTS has a record with nothing past the segment count, a number missing that is the count over it, at most five requests, and
+  -- a last granted segment
+  pub gathered : isRts (s .announced .kind) ≡ true → GatheredIn (s .progress) (s .announced .segments .0)
+  -- a BAM has a next segment, and of the two waits the second only (02, E4)
+  pub next-low : isRts (s .announced .kind) ≡ false → 1 ≤ s .progress .next .0
+  pub next-high : isRts (s .announced .kind) ≡ false → s .progress .next .0 ≤ s .announced .segments .0 + 1
   pub wait : isRts (s .announced .kind) ≡ false → s .progress .wait ≡ Second
 
 -- opening values, each open slot, and no two of one key

@@ -15,7 +15,7 @@ use Rattle.progress.specs.declared.wait.Wait.{Wait}
 use Rattle.progress.specs.declared.wait.Wait.the-variants.{First, Second}
 use Rattle.progress.specs.declared.wait.IdleLimits.{IdleLimits}
 use Rattle.progress.specs.Waits.{limitIn}
-use Rattle.isolation.specs.Standard.{Cause, pgnWrong, numbersWrong, tooLong, assured, keyOpen, eightOpen, outOfOrder, unlikeAnnounced, silent, inPgnForm}
+use Rattle.isolation.specs.Standard.{Cause, pgnWrong, numbersWrong, tooLong, assured, keyOpen, eightOpen, outOfOrder, unlikeAnnounced, requestsSpent, silent, inPgnForm}
 use Rattle.isolation.specs.OwnFrames.{keyAt, isRts, Body, announce, segment, status, abort}
 use Rattle.isolation.specs.Replies.{Reply, opened, took, aborted, refuse, reject, ending, cts, plain, handOver}
 
@@ -24,7 +24,8 @@ pub record Values : Type 0 where
   pub own : Address
   pub limits : IdleLimits
 
--- ---- state: the last reading; closed, or open with the fields announced, mark, wait, last granted and the data taken by segment number
+-- ---- state: the last reading; closed, or open with the fields announced, mark, wait, last granted, requests made and the data taken by
+-- segment number
 
 pub record Piece : Type 0 where
   pub number : ℕ
@@ -37,6 +38,8 @@ pub record Open : Type 0 where
   pub wait : Wait
   -- the last segment granted; a BAM has no grants, and 0
   pub granted : ℕ
+  -- how often an EOMS was answered by asking for what is missing: 02, E6
+  pub requests : ℕ
   pub pieces : List Piece
 
 pub record State : Type 0 where
@@ -101,6 +104,7 @@ opens k last a =
         mark = last;
         wait = cond (isRts (a .kind)) First Second;
         granted = cond (isRts (a .kind)) count 0;
+        requests = 0;
         pieces = [];
       }),
       cond (isRts (a .kind)) (cts k 1 count (a .pgn)) (plain (opened (keyAt k))),
@@ -136,9 +140,9 @@ due total n = cond (leb (60 * n) total) 60 (total - 60 * (n - 1))
 abbrev pub closes : ℕ → Open → Cause → Out
 closes k r c = (none, ending k (r .told) c)
 
--- the grant is used up and segments remain
+-- the last segment granted, and segments remain after it; once missing ones were asked for, no segment brings a CTS (02, E6)
 unfoldable pub spent : Open → ℕ → Bool
-spent r n = isRts (r .told .kind) && (eqb n (r .granted) && ltb n (r .told .segments .0))
+spent r n = isRts (r .told .kind) && (eqb n (r .granted) && (ltb n (r .told .segments .0) && eqb (r .requests) 0))
 
 -- the data due is added, and the mark is the last reading; a grant used up is followed by a CTS and so by the first wait, any other segment
 -- by the second
@@ -150,33 +154,73 @@ adds k last r n d =
         mark = last;
         wait = cond (spent r n) First Second;
         granted = cond (spent r n) (n + count) (r .granted);
+        requests = r .requests;
         pieces = record { number = n; bytes = take (due (r .told .total .0) n) d } ∷ r .pieces;
       }),
       cond (spent r n) (cts k (n + 1) count (r .told .pgn)) (plain (took (keyAt k) n)),
     )
 
+-- a BAM's segments come in sequence, an RTS's in any order: 02, E6
+unfoldable pub outOfTurn : Open → ℕ → Bool
+outOfTurn r n = not (isRts (r .told .kind)) && ltb (nextOf r) n
+
 -- 18, 19, 20
 unfoldable pub segmentOpen : ℕ → ℕ → Open → ℕ → List ℕ → Out
 segmentOpen k last r n d =
     cond (eqb n 0 || isTaken n (r .pieces)) (some r, refuse 18)
-    (cond (ltb (nextOf r) n || ltb (r .told .segments .0) n) (closes k r outOfOrder)
+    (cond (outOfTurn r n || ltb (r .told .segments .0) n) (closes k r outOfOrder)
     (cond (ltb (length d) (due (r .told .total .0) n)) (some r, refuse 20)
     (adds k last r n d)))
 
 -- ---- the end
 
--- all segments are in, and totals, assurance type and PGN are as announced
+-- totals, assurance type and PGN are as announced
 unfoldable pub asAnnounced : Open → Status → Bool
 asAnnounced r s =
-    eqb (length (r .pieces)) (r .told .segments .0)
-    && (eqb (s .total .0) (r .told .total .0)
+    eqb (s .total .0) (r .told .total .0)
     && (eqb (s .segments .0) (r .told .segments .0)
     && (eqb (s .assurance) (r .told .assurance)
-    && eqb (s .pgn) (r .told .pgn))))
+    && eqb (s .pgn) (r .told .pgn)))
 
-unfoldable pub statusOpen : ℕ → Open → Status → Out
-statusOpen k r s =
-    cond (asAnnounced r s) (none, handOver k (r .told) (joined (r .told .segments .0) (r .pieces))) (closes k r unlikeAnnounced)
+-- ---- what is missing: 02, E6
+
+-- the first segment that is missing, of the f from n on; n + f where none is
+unfoldable pub firstMissing : ℕ → ℕ → List Piece → ℕ
+firstMissing zero n xs = n
+firstMissing (suc f) n xs = cond (isTaken n xs) (firstMissing f (n + 1) xs) n
+
+-- how many are missing in a row, of the f segments from n on
+unfoldable pub missingRun : ℕ → ℕ → List Piece → ℕ
+missingRun zero n xs = 0
+missingRun (suc f) n xs = cond (isTaken n xs) 0 (1 + missingRun f (n + 1) xs)
+
+-- a CTS for the first missing run, at most 16 and at most MAX SGMTS; the mark is the last reading, and the first wait is on
+unfoldable pub asks : ℕ → ℕ → Open → Out
+asks k last r =
+    let n : ℕ = firstMissing (r .told .segments .0) 1 (r .pieces) in
+    let count : ℕ = grant (r .told .max) (missingRun (r .told .segments .0 + 1 - n) n (r .pieces)) in (
+      some (record {
+        told = r .told;
+        mark = last;
+        wait = First;
+        granted = n + count - 1;
+        requests = r .requests + 1;
+        pieces = r .pieces;
+      }),
+      cts k n count (r .told .pgn),
+    )
+
+-- segments are missing: an RTS session asks for them, five times at most
+unfoldable pub lacks : ℕ → ℕ → Open → Out
+lacks k last r =
+    cond (not (isRts (r .told .kind))) (closes k r unlikeAnnounced)
+    (cond (ltb (r .requests) 5) (asks k last r) (closes k r requestsSpent))
+
+unfoldable pub statusOpen : ℕ → ℕ → Open → Status → Out
+statusOpen k last r s =
+    cond (not (asAnnounced r s)) (closes k r unlikeAnnounced)
+    (cond (eqb (length (r .pieces)) (r .told .segments .0)) (none, handOver k (r .told) (joined (r .told .segments .0) (r .pieces)))
+    (lacks k last r))
 
 unfoldable pub abortOpen : ℕ → Open → ℕ → Out
 abortOpen k r pgn = cond (eqb pgn (r .told .pgn)) (none, plain (aborted (keyAt k))) (some r, refuse 16)
@@ -192,7 +236,7 @@ unfoldable pub rule : Values → ℕ → ℕ → Bool → Option Open → Body �
 rule v k last eight x (announce a) = announced (v .own) k last eight x a
 rule v k last eight x (segment format n d) =
     cond (not (eqb format 0)) (x, refuse 17) (ifOpen x (λ r. segmentOpen k last r n d))
-rule v k last eight x (status s) = ifOpen x (λ r. statusOpen k r s)
+rule v k last eight x (status s) = ifOpen x (λ r. statusOpen k last r s)
 rule v k last eight x (abort pgn) = ifOpen x (λ r. abortOpen k r pgn)
 
 -- ---- a reading

@@ -35,10 +35,12 @@ pub data Cause : Type 0 where
   keyOpen : Cause
   -- eight sessions are open
   eightOpen : Cause
-  -- a segment comes beyond the next one, or beyond the last
+  -- a segment comes beyond the last, or in a broadcast beyond the next one
   outOfOrder : Cause
-  -- the end of message status comes early, or is not as announced
+  -- the end of message status is not as announced, or comes early in a broadcast
   unlikeAnnounced : Cause
+  -- it comes early, and missing segments were asked for five times
+  requestsSpent : Cause
   -- nothing came for as long as the idle limit
   silent : Cause
 
@@ -52,10 +54,11 @@ numberFor keyOpen = 14
 numberFor eightOpen = 15
 numberFor outOfOrder = 19
 numberFor unlikeAnnounced = 21
+numberFor requestsSpent = 21
 numberFor silent = 22
 
--- 001, Table 11: 1 no further session, 3 too late, 7 a wrong segment number, 9 larger than there is room for; 250 for what has no line
--- of its own (01, "Transfer frames")
+-- 001, Table 11: 1 no further session, 3 too late, 5 all requests spent, 7 a wrong segment number, 9 larger than there is room for; 250 for
+-- what has no line of its own (01, "Transfer frames")
 unfoldable pub reasonFor : Cause → ℕ
 reasonFor pgnWrong = 250
 reasonFor numbersWrong = 250
@@ -65,4 +68,5 @@ reasonFor keyOpen = 250
 reasonFor eightOpen = 1
 reasonFor outOfOrder = 7
 reasonFor unlikeAnnounced = 250
+reasonFor requestsSpent = 5
 reasonFor silent = 3

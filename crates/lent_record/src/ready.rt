@@ -6,8 +6,8 @@ ghost use lib.ListN.{length, getD, drop};
 ghost use Rattle.record_bytes.specs.Layout.{piecesOf, limitsAt};
 ghost use Rattle.record_bytes.specs.Places.{recordLength, ownPlace, lastPlace};
 ghost use Rattle.lent_record.specs.Ready.{readyIn};
-ghost use Rattle.lent_record.specs.Judged.{openReady, twoReady, piecesReady};
-use super::search::any_holds;
+ghost use Rattle.lent_record.specs.Judged.{openReady, twoReady, piecesBefore, piecesReady};
+use super::search::any_before;
 use frame::Address;
 use progress::wait::IdleLimits;
 use receiver::Receiver;
@@ -44,10 +44,10 @@ pub fn limits_of(bytes: &[u8]) -> IdleLimits
     }
 }
 
-// Whether slot i, which is not free, has codes, is in bounds, and has no twin after it.
+// Whether slot i, which is not free, has codes, is in bounds, and has no twin before it.
 fn open_ready(bytes: &[u8], i: usize, own: Address) -> bool
     requires { ⌜ (length (now bytes) ≡ recordLength) × (i < 8) ⌝ }
-    ensures { λ r. ⌜ r ≡ openReady own (getD (piecesOf (now (bytes .entry))) i []) (drop (i + 1) (piecesOf (now (bytes .entry)))) ⌝ }
+    ensures { λ r. ⌜ r ≡ openReady own (getD (piecesOf (now (bytes .entry))) i []) (piecesBefore (now (bytes .entry)) i) ⌝ }
 {
     let at = HEAD_BYTES + SLOT_BYTES * i;
     if !codes_ok(bytes[at], bytes[at + KIND_AT], bytes[at + WAIT_AT]) {
@@ -58,7 +58,7 @@ fn open_ready(bytes: &[u8], i: usize, own: Address) -> bool
     if !session_ok(s, own) {
         return false;
     }
-    !any_holds(bytes, i + 1, s.announced.key)
+    !any_before(bytes, i, s.announced.key)
 }
 
 // Slots i and i + 1: a free one costs one byte's test.
@@ -81,7 +81,7 @@ fn two_ready(bytes: &[u8], i: usize, own: Address) -> bool
 // All eight, by twos and not in a loop: the place of each slot is then known where this is compiled.
 fn slots_ready(bytes: &[u8], own: Address) -> bool
     requires { ⌜ length (now bytes) ≡ recordLength ⌝ }
-    ensures { λ r. ⌜ r ≡ piecesReady own (piecesOf (now (bytes .entry))) ⌝ }
+    ensures { λ r. ⌜ r ≡ piecesReady own [] (piecesOf (now (bytes .entry))) ⌝ }
 {
     if !two_ready(bytes, 0, own) {
         return false;

@@ -7,6 +7,7 @@ ghost use Rattle.slots.specs.Bounds.{anyHolds};
 ghost use Rattle.record_bytes.specs.Layout.{slotsAt};
 ghost use Rattle.record_bytes.specs.Places.{recordLength, sessionPlace};
 ghost use Rattle.lent_record.specs.Held.{keyOpenAt};
+ghost use Rattle.lent_record.specs.Judged.{slotsBefore};
 use record_bytes::places::DA_AT;
 use record_bytes::places::HEAD_BYTES;
 use record_bytes::places::SA_AT;
@@ -41,19 +42,17 @@ fn holds_key(bytes: &[u8], at: usize, k: Key) -> bool
     (bytes[at + DA_AT] == k.da.0) & (bytes[at + SESSION_AT] == k.session.0)
 }
 
-// Whether a slot from the one given on has the key open.
-pub fn any_holds(bytes: &[u8], from: usize, k: Key) -> bool
-    requires { ⌜ (length (now bytes) ≡ recordLength) × (from ≤ 8) ⌝ }
-    ensures { λ r. ⌜ r ≡ anyHolds k (drop from (slotsAt (now (bytes .entry)))) ⌝ }
+// Whether a slot before slot i has the key open.
+pub fn any_before(bytes: &[u8], i: usize, k: Key) -> bool
+    requires { ⌜ (length (now bytes) ≡ recordLength) × (i ≤ 8) ⌝ }
+    ensures { λ r. ⌜ r ≡ anyHolds k (slotsBefore (now (bytes .entry)) i) ⌝ }
 {
-    let mut j = from;
-    let mut at = HEAD_BYTES + SLOT_BYTES * from;
-    while j < SLOTS {
-        if holds_key(bytes, at, k) {
+    let mut j = i;
+    while 0 < j {
+        j = j - 1;
+        if holds_key(bytes, HEAD_BYTES + SLOT_BYTES * j, k) {
             return true;
         }
-        j = j + 1;
-        at = at + SLOT_BYTES;
     }
     false
 }

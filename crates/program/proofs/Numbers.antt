@@ -2,7 +2,7 @@
 use Prim.Native.Nat.{ℕ, zero, suc, _+_, _-_, _*_, _≤_, min}
 use native.Mathlib.Omega.{arith}
 use mathlib.Core.Path.{_≡_, refl}
-use mathlib.Core.Bool.{Bool, true, false, cond, not}
+use mathlib.Core.Bool.{Bool, true, false, cond, not, _&&_}
 use mathlib.Core.List.{List, [], _∷_, _++_, map}
 use mathlib.Mathlib.Data.Bool.Basic.{and-elim-left, and-elim-right}
 use lib.Dec.{eqb, leb, ltb}
@@ -11,9 +11,12 @@ use lib.Seq.{paste}
 use borrow.Author.Tests.{eqb-true, leb-true, ltb-false}
 use Rattle.progress.specs.declared.wait.IdleLimits.{IdleLimits}
 use Rattle.laws.specs.Choice.{each-of}
+use Rattle.segments.specs.declared.Segments.{Segments}
+use Rattle.segments.specs.Model.{firstMissing, runFrom}
+use Rattle.segments.specs.Laws.{run-is}
 use Rattle.frame.specs.declared.Address.{Address}
 use Rattle.frame.specs.declared.refusal.Refusal.{Refusal}
-use Rattle.frame.specs.declared.refusal.Refusal.the-variants.{AnnouncementForm, FormatIndicator, KeyNotOpen, KeyOpen, SlotsFull, StatusMismatch, Silence, OutOfBounds}
+use Rattle.frame.specs.declared.refusal.Refusal.the-variants.{AnnouncementForm, FormatIndicator, KeyNotOpen, KeyOpen, SlotsFull, Silence, OutOfBounds}
 use Rattle.frame.specs.declared.judge.Route.{Route}
 use Rattle.frame.specs.declared.judge.Verdict.{Verdict}
 use Rattle.frame.specs.declared.judge.Verdict.the-variants as verdict
@@ -39,18 +42,20 @@ use Rattle.answer.specs.declared.Acceptance.the-variants as acceptance
 use Rattle.answer.specs.declared.End.the-variants as end
 use Rattle.answer.specs.Places.{placeOf, cutOf, placeBytes}
 use Rattle.progress.specs.Forward.{grantOf, ctsDue}
+use Rattle.progress.specs.Requests.{askedCount}
 use Rattle.session.specs.declared.Session.{Session}
 use Rattle.session.specs.declared.State.{State}
 use Rattle.session.specs.declared.State.the-variants.{Closed, Open}
 use Rattle.session.specs.declared.Change.{Change}
 use Rattle.session.specs.declared.Change.the-variants.{Stays, Opens, Moves, Ends}
+use Rattle.session.specs.declared.Step.{Step}
 use Rattle.session.specs.declared.announcement.Form.{Form}
 use Rattle.session.specs.declared.announcement.Form.the-variants as form
 use Rattle.session.specs.declared.segment.Judged.{Judged}
 use Rattle.session.specs.declared.segment.Judged.the-variants as judgement
 use Rattle.session.specs.Announcements.{misdirected, formOf, firstCts}
 use Rattle.session.specs.Segments.{dueOf, judgedOf, nextCts}
-use Rattle.session.specs.Ends.{statusMatches}
+use Rattle.session.specs.Cases.{by-status}
 use Rattle.session.specs.Decisions.{stays, ended, ifOpen, rejection, acceptedIf, isRestart, forKey, onForm, announcedTo, onJudged, segmentOpen, segmentTo, messageOf, statusTo, abortTo, endingOf, isSilent}
 use Rattle.session.specs.Bounds.{stateOk, sessionOk}
 use Rattle.session.specs.InBounds.{sound-of}
@@ -194,14 +199,19 @@ segment-small x sg last h = go x h (not (eqb (sg .format) 0))
     go Closed h false = tt
     go (Open s) h false = judges s h (judgedOf s (sg .number .0) (sg .room))
 
-status-small : (x : State) (slot : ℕ) (st : Status) → StateKeys x → AnswerSmall (statusTo x slot st .answer)
-unfolding statusTo
-status-small Closed slot st h = tt
-status-small (Open s) slot st h = go (statusMatches s st)
+-- one CTS asks for 16 segments at most
+asked-small : (t : Segments) (c max : ℕ) → Small (askedCount t c max)
+asked-small t c max = go (leb 1 (firstMissing t c) && leb (firstMissing t c) c)
   where
-    go : (t : Bool) → AnswerSmall (cond t (record { change = Ends; answer = answer.HandedOver (messageOf slot s) }) (ended s StatusMismatch) .answer)
-    go true = h
-    go false = h
+    go : (b : Bool) → Small (cond b (runFrom t (firstMissing t c) (min (min max 16) (c + 1 - firstMissing t c))) 0)
+    go true = omega (arith, run-is t (firstMissing t c) (min (min max 16) (c + 1 - firstMissing t c)) .most)
+    go false = omega arith
+
+status-small : (x : State) (slot : ℕ) (st : Status) (last : ℕ) → StateKeys x → AnswerSmall (statusTo x slot st last .answer)
+unfolding statusTo
+status-small Closed slot st last h = tt
+status-small (Open s) slot st last h =
+    by-status (λ (r : Step). AnswerSmall (r .answer)) s slot st last h (λ _ _. h) (λ _ _ _. (h, asked-small (s .progress .taken) (s .announced .segments .0) (s .announced .max))) h
 
 abort-small : (x : State) (pgn : ℕ) → StateKeys x → AnswerSmall (abortTo x pgn .answer)
 unfolding abortTo
@@ -220,7 +230,7 @@ module _ (r : Receiver) (h : SlotsKeys (r .slots)) where
   controls (control.Announce a) k g =
       let f : Found = slotFor k (r .slots) in announce-small (stateIn f (r .slots)) (isAt f) k a (r .last) g
   controls (control.EndOfMessage st) k g =
-      let f : Found = slotFor k (r .slots) in status-small (stateIn f (r .slots)) (slotOf f) st (keys-in f (r .slots) h)
+      let f : Found = slotFor k (r .slots) in status-small (stateIn f (r .slots)) (slotOf f) st (r .last) (keys-in f (r .slots) h)
   controls (control.Abort pgn) k g =
       let f : Found = slotFor k (r .slots) in abort-small (stateIn f (r .slots)) pgn (keys-in f (r .slots) h)
   controls (control.Refused n) k g = tt

@@ -1,2 +1,4 @@
 pub mod Waits
 pub mod Forward
+pub mod Requests
+pub mod Asked

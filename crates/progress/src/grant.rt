@@ -13,9 +13,16 @@ pub fn least(a: u32, b: u32) -> u32
     if a <= b { a } else { b }
 }
 
+// The most that one CTS may grant: MAX SGMTS, or GRANT.
+pub fn most(max: u8) -> u8
+    ensures { λ r. ⌜ r ≡ min max 16 ⌝ }
+{
+    least(wide(max), GRANT) as u8
+}
+
 // The smallest of MAX SGMTS, GRANT and the segments left.
 pub fn grant(max: u8, left: u32) -> u8
     ensures { λ r. ⌜ r ≡ grantOf max left ⌝ }
 {
-    least(least(wide(max), GRANT), left) as u8
+    least(wide(most(max)), left) as u8
 }

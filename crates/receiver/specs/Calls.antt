@@ -94,7 +94,7 @@ announceStep r k a =
 unfoldable pub statusStep : Receiver → Key → Status → Stepped
 statusStep r k st =
     let f : Found = slotFor k (r .slots) in
-    apply r f (statusTo (stateIn f (r .slots)) (slotOf f) st)
+    apply r f (statusTo (stateIn f (r .slots)) (slotOf f) st (r .last))
 
 unfoldable pub abortStep : Receiver → Key → ℕ → Stepped
 abortStep r k pgn =

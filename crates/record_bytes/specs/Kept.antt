@@ -21,10 +21,11 @@ use Rattle.session.specs.declared.State.the-variants.{Closed, Open}
 use Rattle.slots.specs.Slots.{freeSlot, isFree}
 use Rattle.receiver.specs.Calls.{withSlot}
 use Rattle.record_bytes.specs.Places.{headLength, slotLength, announcedLength, progressLength, slotPlace, progressPlace}
-use Rattle.record_bytes.specs.Places.{firstLimitPlace, secondLimitPlace, lastPlace, statePlace, kindPlace, totalPlace, segmentsPlace, pgnPlace, nextPlace, grantedPlace, markPlace, waitPlace}
+use Rattle.record_bytes.specs.Places.{firstLimitPlace, secondLimitPlace, lastPlace, statePlace, kindPlace, totalPlace, segmentsPlace, pgnPlace, nextPlace, grantedPlace, markPlace, waitPlace, takenPlace, missingPlace}
 use Rattle.record_bytes.specs.Layout.{kindByte, kindAt, waitByte, waitAt, progressBytes, sessionBytes, sessionAt, slotBytes, isCode, codesOk, codesIn, slotAt, headBytes, pieces, piecesOf, codesAll, slotsAt, isRecord, recordAt}
 use Rattle.words.specs.Words.{low4, low32}
 use Rattle.words.specs.Laws.{both, same-byte, low4-bytes}
+use Rattle.record_bytes.specs.Longs.{low8, low64, two-words}
 use Rattle.record_bytes.specs.Pieces.{length-slot, length-pieces, piece-of, record-long, record-codes}
 use Rattle.record_bytes.specs.Keeping.{kept, merged, putIn}
 
@@ -79,6 +80,18 @@ four p at h e =
     let d : getD p (at + 3) 0 < 256 = h (at + 3) in
     low4-bytes (low32 p at) (digit-0 _ _ _ _ a b c d) (digit-1 _ _ _ _ a b c d) (digit-2 _ _ _ _ a b c d) (digit-3 _ _ _ _ a b c d) e
 
+-- and one that is read off eight
+eight : (p : List ℕ) (at : ℕ) {xs ys : List ℕ} → Bytes p → xs ≡ ys
+    → getD p at 0 ∷ getD p (at + 1) 0 ∷ getD p (at + 2) 0 ∷ getD p (at + 3) 0
+    ∷ getD p (at + 4) 0 ∷ getD p (at + 4 + 1) 0 ∷ getD p (at + 4 + 2) 0 ∷ getD p (at + 4 + 3) 0 ∷ xs
+    ≡ low8 (low64 p at) ys
+eight p at {xs} {ys} h e =
+    let a : getD p at 0 < 256 = h at in
+    let b : getD p (at + 1) 0 < 256 = h (at + 1) in
+    let c : getD p (at + 2) 0 < 256 = h (at + 2) in
+    let d : getD p (at + 3) 0 < 256 = h (at + 3) in
+    four p at h (four p (at + 4) h e) ∙ two-words (low32 p at) (low32 p (at + 4)) (omega arith) ys
+
 -- ---- a slot
 
 -- a piece of a record
@@ -123,7 +136,11 @@ session-spelled p long h e k w =
     (four p pgnPlace h
     (four p nextPlace h
     (four p grantedPlace h
-    (four p markPlace h (both (wait-of _ w) refl))))))))))))
+    (four p markPlace h
+    (both (wait-of _ w)
+    (eight p takenPlace h
+    (same-byte _
+    (four p missingPlace h refl)))))))))))))))
 
 -- what the codes of a piece leave: open with a kind and a wait, or free
 codes-open : (x k w : ℕ) (u : Bool) → eqb x 0 ≡ u → eqb x 1 ≡ true → codesOk x k w ≡ true → (isCode k && isCode w) ≡ true

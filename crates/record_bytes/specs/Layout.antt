@@ -1,11 +1,12 @@
 -- The record as bytes of a fixed layout: own address, both idle limits and last reading, then eight slots (01, "Life of a session").
--- Numbers of 32 bits have their low byte first.
+-- Numbers of 32 bits, and of 64, have their low byte first.
 use Prim.Native.Nat.{ℕ, zero, suc, _+_, _*_, _/_, _%_}
 use mathlib.Core.Bool.{Bool, true, false, cond, not, _&&_, _||_}
 use mathlib.Core.List.{List, [], _∷_, _++_, map}
 use lib.Dec.{eqb}
 use lib.ListN.{length, getD, take, drop, replicate}
 use Rattle.words.specs.Words.{low4, low32}
+use Rattle.record_bytes.specs.Longs.{low8, low64}
 use Rattle.transport.specs.declared.Kind.{Kind}
 use Rattle.transport.specs.declared.Kind.the-variants.{Rts, Bam}
 use Rattle.progress.specs.declared.Announced.{Announced}
@@ -19,7 +20,7 @@ use Rattle.session.specs.declared.State.{State}
 use Rattle.session.specs.declared.State.the-variants.{Closed, Open}
 use Rattle.receiver.specs.declared.Receiver.{Receiver}
 use Rattle.record_bytes.specs.Places.{recordLength, headLength, slotLength, ownPlace, firstLimitPlace, secondLimitPlace, lastPlace}
-use Rattle.record_bytes.specs.Places.{statePlace, kindPlace, saPlace, daPlace, sessionPlace, totalPlace, segmentsPlace, maxPlace, pgnPlace, nextPlace, grantedPlace, markPlace, waitPlace}
+use Rattle.record_bytes.specs.Places.{statePlace, kindPlace, saPlace, daPlace, sessionPlace, totalPlace, segmentsPlace, maxPlace, pgnPlace, nextPlace, grantedPlace, markPlace, waitPlace, takenPlace, takenHighPlace, missingPlace, requestsPlace}
 
 -- ---- a slot
 
@@ -49,9 +50,13 @@ announcedBytes a =
     ∷ a .key .session .0
     ∷ low4 (a .total .0) (low4 (a .segments .0) (a .max ∷ low4 (a .pgn) []))
 
--- what each segment brings forward: next segment, last granted, mark, wait
+-- which segments are in, how many are not, and the requests made for them (02, E6)
+abbrev pub gatheredBytes : Progress → List ℕ
+gatheredBytes p = low8 (p .taken .low) (p .taken .high ∷ low4 (p .missing) (p .requests ∷ []))
+
+-- what each segment brings forward: next segment, last granted, mark, wait, and what is gathered
 abbrev pub progressBytes : Progress → List ℕ
-progressBytes p = low4 (p .next .0) (low4 (p .granted .0) (low4 (p .mark) (waitByte (p .wait) ∷ [])))
+progressBytes p = low4 (p .next .0) (low4 (p .granted .0) (low4 (p .mark) (waitByte (p .wait) ∷ gatheredBytes p)))
 
 unfoldable pub sessionBytes : Session → List ℕ
 sessionBytes s = announcedBytes (s .announced) ++ progressBytes (s .progress)
@@ -75,6 +80,9 @@ abbrev pub progressAt : List ℕ → Progress
 progressAt b =
     record {
       next = record { 0 = low32 b nextPlace };
+      taken = record { low = low64 b takenPlace; high = getD b takenHighPlace 0 };
+      missing = low32 b missingPlace;
+      requests = getD b requestsPlace 0;
       granted = record { 0 = low32 b grantedPlace };
       mark = low32 b markPlace;
       wait = waitAt (getD b waitPlace 0);

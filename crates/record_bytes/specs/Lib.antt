@@ -1,4 +1,5 @@
 pub mod Places
+pub mod Longs
 pub mod Layout
 pub mod Pieces
 pub mod Keeping

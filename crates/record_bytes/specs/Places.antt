@@ -3,13 +3,13 @@ use Prim.Native.Nat.{ℕ, _+_, _*_}
 
 -- the record, its head, and a slot
 abbrev pub recordLength : ℕ
-recordLength = 261
+recordLength = 373
 
 abbrev pub headLength : ℕ
 headLength = 13
 
 abbrev pub slotLength : ℕ
-slotLength = 31
+slotLength = 45
 
 -- in the head: own address, both idle limits, last reading
 abbrev pub ownPlace : ℕ
@@ -65,11 +65,27 @@ markPlace = 26
 abbrev pub waitPlace : ℕ
 waitPlace = 30
 
+-- of an RTS: which of segments 1 to 64 are in, and which of 65 to 69; how many are not; the requests made for them
+abbrev pub takenPlace : ℕ
+takenPlace = 31
+
+abbrev pub takenHighPlace : ℕ
+takenHighPlace = 39
+
+abbrev pub missingPlace : ℕ
+missingPlace = 40
+
+abbrev pub requestsPlace : ℕ
+requestsPlace = 44
+
 abbrev pub announcedLength : ℕ
 announcedLength = nextPlace
 
 abbrev pub progressLength : ℕ
-progressLength = 13
+progressLength = 27
+
+abbrev pub gatheredLength : ℕ
+gatheredLength = 14
 
 -- slot i, and the progress of its session
 abbrev pub slotPlace : ℕ → ℕ

@@ -12,13 +12,14 @@ use Rattle.laws.specs.Choice.{else}
 use Rattle.slots.specs.declared.Slot.{Slot}
 use Rattle.session.specs.declared.State.{State}
 use Rattle.session.specs.declared.State.the-variants.{Closed, Open}
+use Rattle.session.specs.Fits.{StateSmall}
 use Rattle.slots.specs.Slots.{freeState}
 use Rattle.receiver.specs.declared.Receiver.{Receiver}
 use Rattle.record_bytes.specs.Places.{recordLength, headLength, slotLength, statePlace, kindPlace, waitPlace}
 use Rattle.record_bytes.specs.Layout.{sessionAt, stateBytes, slotBytes, slotAt, codesOk, codesIn, headBytes, pieces, piecesOf, codesAll, isRecord, recordAt}
 use Rattle.record_bytes.specs.Pieces.{length-slot, length-pieces}
 use Rattle.record_bytes.specs.Keeping.{kept, merged, putIn}
-use Rattle.record_bytes.specs.RoundTrip.{StateFits, SlotsFit, RecordFits, state-back, codes-state, headed, head-back}
+use Rattle.record_bytes.specs.RoundTrip.{SlotsFit, RecordFits, state-back, codes-state, headed, head-back}
 use Rattle.words.specs.Laws.{fourBytes}
 
 -- ---- a slot
@@ -27,7 +28,7 @@ free-read : (p : List ℕ) (n : ℕ) → n ≡ 0 → _≡_ {A = State} (cond (eq
 free-read p n e = ap (λ (k : ℕ). cond (eqb k 1) (Open (sessionAt p)) Closed) e
 
 -- t: the slot is free and its piece's state code is 0
-kept-by : (p : List ℕ) (st : State) (t : Bool) → t ≡ (freeState st && eqb (getD p statePlace 0) 0) → StateFits st
+kept-by : (p : List ℕ) (st : State) (t : Bool) → t ≡ (freeState st && eqb (getD p statePlace 0) 0) → StateSmall st
     → slotAt (cond t p (stateBytes st)) ≡ record { state = st }
 kept-by p st false e f = state-back st f
 kept-by p Closed true e f =

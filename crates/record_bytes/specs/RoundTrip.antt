@@ -18,28 +18,19 @@ use Rattle.session.specs.declared.Session.{Session}
 use Rattle.slots.specs.declared.Slot.{Slot}
 use Rattle.session.specs.declared.State.{State}
 use Rattle.session.specs.declared.State.the-variants.{Closed, Open}
+use Rattle.session.specs.Fits.{ProgressSmall, SessionSmall, StateSmall}
 use Rattle.receiver.specs.declared.Receiver.{Receiver}
 use Rattle.words.specs.Laws.{fourBytes, low32-read-back}
+use Rattle.record_bytes.specs.Longs.{eightBytes, low64-read-back}
 use Rattle.record_bytes.specs.Places.{recordLength, headLength, slotLength}
 use Rattle.record_bytes.specs.Layout.{kindByte, kindAt, waitByte, waitAt, announcedAt, progressAt, sessionBytes, sessionAt, stateBytes, slotBytes, isCode, codesIn, slotAt, headBytes, slotsBytes, recordBytes, pieces, piecesOf, codesAll, isRecord, recordAt}
 use Rattle.record_bytes.specs.Pieces.{length-slots, pieces-slots}
 
--- The numbers are no larger than their places. (Addresses, session number and MAX SGMTS are a byte as they are.)
-pub record SessionFits (s : Session) : Type 0 where
-  pub total : s .announced .total .0 < 4294967296
-  pub segments : s .announced .segments .0 < 4294967296
-  pub pgn : s .announced .pgn < 4294967296
-  pub next : s .progress .next .0 < 4294967296
-  pub granted : s .progress .granted .0 < 4294967296
-  pub mark : s .progress .mark < 4294967296
-
-abbrev pub StateFits : State → Type 0
-StateFits Closed = Unit {0}
-StateFits (Open s) = SessionFits s
-
+-- The numbers are no larger than their places; those of a session are its StateSmall. (Addresses, session number and MAX SGMTS are a
+-- byte as they are.)
 abbrev pub SlotsFit : List Slot → Type 0
 SlotsFit [] = Unit {0}
-SlotsFit (s ∷ ss) = StateFits (s .state) × SlotsFit ss
+SlotsFit (s ∷ ss) = StateSmall (s .state) × SlotsFit ss
 
 pub record RecordFits (r : Receiver) : Type 0 where
   pub first : r .limits .first < 4294967296
@@ -56,7 +47,7 @@ wait-back : (w : Wait) → waitAt (waitByte w) ≡ w
 wait-back First = refl
 wait-back Second = refl
 
-announced-back : (s : Session) → SessionFits s → announcedAt (sessionBytes s) ≡ s .announced
+announced-back : (s : Session) → SessionSmall s → announcedAt (sessionBytes s) ≡ s .announced
 unfolding sessionBytes
 announced-back s f =
     let a : Announced = s .announced in
@@ -68,24 +59,39 @@ announced-back s f =
     ∙ ap (λ (x : ℕ). made (a .kind) (a .total .0) x (W (a .pgn))) (low32-read-back (a .segments .0) (f .segments))
     ∙ ap (λ (x : ℕ). made (a .kind) (a .total .0) (a .segments .0) x) (low32-read-back (a .pgn) (f .pgn))
 
-progress-back : (s : Session) → SessionFits s → progressAt (sessionBytes s) ≡ s .progress
+progress-back : (s : Session) → ProgressSmall (s .progress) → progressAt (sessionBytes s) ≡ s .progress
 unfolding sessionBytes
 progress-back s f =
     let p : Progress = s .progress in
-    let made : Wait → ℕ → ℕ → ℕ → Progress =
-    λ (w : Wait) (n g m : ℕ). record { next = record { 0 = n }; granted = record { 0 = g }; mark = m; wait = w } in
+    let made : Wait → ℕ → ℕ → ℕ → ℕ → ℕ → Progress =
+    λ (w : Wait) (n l c g m : ℕ).
+    record {
+      next = record { 0 = n };
+      taken = record { low = l; high = p .taken .high };
+      missing = c;
+      requests = p .requests;
+      granted = record { 0 = g };
+      mark = m;
+      wait = w;
+    } in
     let W : ℕ → ℕ = fourBytes in
-    ap (λ (w : Wait). made w (W (p .next .0)) (W (p .granted .0)) (W (p .mark))) (wait-back (p .wait))
-    ∙ ap (λ (x : ℕ). made (p .wait) x (W (p .granted .0)) (W (p .mark))) (low32-read-back (p .next .0) (f .next))
-    ∙ ap (λ (x : ℕ). made (p .wait) (p .next .0) x (W (p .mark))) (low32-read-back (p .granted .0) (f .granted))
-    ∙ ap (λ (x : ℕ). made (p .wait) (p .next .0) (p .granted .0) x) (low32-read-back (p .mark) (f .mark))
+    let n : ℕ = p .next .0 in
+    let l : ℕ = p .taken .low in
+    let c : ℕ = p .missing in
+    let g : ℕ = p .granted .0 in
+    ap (λ (w : Wait). made w (W n) (eightBytes l) (W c) (W g) (W (p .mark))) (wait-back (p .wait))
+    ∙ ap (λ (x : ℕ). made (p .wait) x (eightBytes l) (W c) (W g) (W (p .mark))) (low32-read-back n (f .next))
+    ∙ ap (λ (x : ℕ). made (p .wait) n x (W c) (W g) (W (p .mark))) (low64-read-back l (f .low))
+    ∙ ap (λ (x : ℕ). made (p .wait) n l x (W g) (W (p .mark))) (low32-read-back c (f .missing))
+    ∙ ap (λ (x : ℕ). made (p .wait) n l c x (W (p .mark))) (low32-read-back g (f .granted))
+    ∙ ap (λ (x : ℕ). made (p .wait) n l c g x) (low32-read-back (p .mark) (f .mark))
 
-session-back : (s : Session) → SessionFits s → sessionAt (sessionBytes s) ≡ s
+session-back : (s : Session) → SessionSmall s → sessionAt (sessionBytes s) ≡ s
 session-back s f =
     ap (λ (a : Announced). record { announced = a; progress = progressAt (sessionBytes s) }) (announced-back s f)
-    ∙ ap (λ (p : Progress). record { announced = s .announced; progress = p }) (progress-back s f)
+    ∙ ap (λ (p : Progress). record { announced = s .announced; progress = p }) (progress-back s (f .progress))
 
-pub state-back : (st : State) → StateFits st → slotAt (stateBytes st) ≡ record { state = st }
+pub state-back : (st : State) → StateSmall st → slotAt (stateBytes st) ≡ record { state = st }
 unfolding sessionBytes
 state-back Closed f = refl
 state-back (Open s) f = ap (λ (x : Session). record { state = Open x }) (session-back s f)

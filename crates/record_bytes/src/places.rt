@@ -4,11 +4,11 @@ ghost use Prim.Native.Nat.{_≤_};
 ghost use Rattle.record_bytes.specs.Places.{slotPlace};
 
 // The record, its head, and a slot.
-pub const RECORD_BYTES: usize = 261;
+pub const RECORD_BYTES: usize = 373;
 
 pub const HEAD_BYTES: usize = 13;
 
-pub const SLOT_BYTES: usize = 31;
+pub const SLOT_BYTES: usize = 45;
 
 // In the head: own address, both idle limits, last reading.
 pub const OWN_AT: usize = 0;
@@ -46,6 +46,15 @@ pub const GRANTED_AT: usize = 22;
 pub const MARK_AT: usize = 26;
 
 pub const WAIT_AT: usize = 30;
+
+// Of an RTS: which of segments 1 to 64 are in, and which of 65 to 69; how many are not; the requests made for them.
+pub const TAKEN_AT: usize = 31;
+
+pub const TAKEN_HIGH_AT: usize = 39;
+
+pub const MISSING_AT: usize = 40;
+
+pub const REQUESTS_AT: usize = 44;
 
 // Where slot i is.
 pub fn slot_place(i: usize) -> usize

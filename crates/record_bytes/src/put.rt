@@ -4,20 +4,25 @@ ghost use mathlib.Core.List.{[]};
 ghost use Prim.Native.Nat.{_+_, _<_, _≤_};
 ghost use lib.ListN.{length};
 ghost use lib.Seq.{paste};
-ghost use Rattle.record_bytes.specs.Layout.{announcedBytes, progressBytes, slotBytes, headBytes};
+ghost use Rattle.record_bytes.specs.Layout.{announcedBytes, gatheredBytes, progressBytes, slotBytes, headBytes};
 ghost use Rattle.words.specs.Words.{low4};
-ghost use Rattle.record_bytes.specs.Places.{recordLength, headLength, slotLength, slotPlace, announcedLength, progressLength, progressPlace, lastPlace};
+ghost use Rattle.record_bytes.specs.Places.{recordLength, headLength, slotLength, slotPlace, announcedLength, progressLength, gatheredLength, takenPlace, progressPlace, lastPlace};
+use super::long::put_long;
 use super::places::FIRST_LIMIT_AT;
 use super::places::GRANTED_AT;
 use super::places::LAST_AT;
 use super::places::MARK_AT;
 use super::places::MAX_AT;
+use super::places::MISSING_AT;
 use super::places::NEXT_AT;
 use super::places::OWN_AT;
 use super::places::PGN_AT;
+use super::places::REQUESTS_AT;
 use super::places::SECOND_LIMIT_AT;
 use super::places::SEGMENTS_AT;
 use super::places::SLOT_BYTES;
+use super::places::TAKEN_AT;
+use super::places::TAKEN_HIGH_AT;
 use super::places::TOTAL_AT;
 use super::places::WAIT_AT;
 use super::places::slot_place;
@@ -46,6 +51,19 @@ fn put_announced(out: &mut [u8], at: usize, a: Announced)
     put_word(out, at + PGN_AT, a.pgn);
 }
 
+// Writes which segments are in, how many are not and the requests made for them, into the slot that begins at at.
+fn put_gathered(out: &mut [u8], at: usize, p: Progress)
+    requires { ⌜ at + slotLength ≤ length (now out) ⌝ }
+    ensures { λ _. ⌜ now (out .exit) ≡ paste (now (out .entry)) (at + takenPlace) (gatheredBytes p) gatheredLength ⌝ }
+{
+    let high = [p.taken.high];
+    let requests = [p.requests];
+    put_long(out, at + TAKEN_AT, p.taken.low);
+    copy(out, at + TAKEN_HIGH_AT, &high, 0, 1);
+    put_word(out, at + MISSING_AT, p.missing);
+    copy(out, at + REQUESTS_AT, &requests, 0, 1);
+}
+
 // Writes how far the session of slot i has come, after the bytes that stay as they were announced.
 pub fn put_progress(out: &mut [u8], i: usize, p: Progress)
     requires { ⌜ (i < 8) × (length (now out) ≡ recordLength) ⌝ }
@@ -58,6 +76,7 @@ pub fn put_progress(out: &mut [u8], i: usize, p: Progress)
     put_word(out, at + GRANTED_AT, p.granted.0);
     put_word(out, at + MARK_AT, p.mark);
     copy(out, at + WAIT_AT, &code, 0, 1);
+    put_gathered(out, at, p);
 }
 
 // Writes slot i; a free one is all zeros.

@@ -1,19 +1,24 @@
 // A slot read off its bytes, and the codes of its state, kind and wait.
 ghost use mathlib.Core.Path.{_≡_};
 ghost use lib.ListN.{length};
-ghost use Rattle.record_bytes.specs.Layout.{isCode, codesOk, kindByte, kindAt, waitByte, waitAt, sessionAt, slotAt};
+ghost use Rattle.record_bytes.specs.Layout.{isCode, codesOk, kindByte, kindAt, waitByte, waitAt, progressAt, sessionAt, slotAt};
 ghost use Rattle.record_bytes.specs.Places.{slotLength};
+use super::long::long_at;
 use super::places::DA_AT;
 use super::places::GRANTED_AT;
 use super::places::KIND_AT;
 use super::places::MARK_AT;
 use super::places::MAX_AT;
+use super::places::MISSING_AT;
 use super::places::NEXT_AT;
 use super::places::PGN_AT;
+use super::places::REQUESTS_AT;
 use super::places::SA_AT;
 use super::places::SEGMENTS_AT;
 use super::places::SESSION_AT;
 use super::places::STATE_AT;
+use super::places::TAKEN_AT;
+use super::places::TAKEN_HIGH_AT;
 use super::places::TOTAL_AT;
 use super::places::WAIT_AT;
 use frame::Address;
@@ -23,6 +28,7 @@ use frame::SessionNumber;
 use progress::Announced;
 use progress::Progress;
 use progress::wait::Wait;
+use segments::Segments;
 use session::Session;
 use session::State;
 use slots::Slot;
@@ -79,13 +85,33 @@ fn kind_at(byte: u8) -> Kind
     Kind::Rts
 }
 
+// How far the session of an open slot has come.
+fn progress_at(piece: &[u8]) -> Progress
+    requires { ⌜ length (now piece) ≡ slotLength ⌝ }
+    ensures { λ r. ⌜ r ≡ progressAt (now (piece .entry)) ⌝ }
+{
+    let wait = wait_at(piece[WAIT_AT]);
+    Progress {
+        next: SegmentNumber(word_at(piece, NEXT_AT)),
+        taken: Segments {
+            low: long_at(piece, TAKEN_AT),
+            high: piece[TAKEN_HIGH_AT],
+        },
+        missing: word_at(piece, MISSING_AT),
+        requests: piece[REQUESTS_AT],
+        granted: SegmentNumber(word_at(piece, GRANTED_AT)),
+        mark: word_at(piece, MARK_AT),
+        wait: wait,
+    }
+}
+
 // The session that the piece of an open slot says.
 pub fn session_at(piece: &[u8]) -> Session
     requires { ⌜ length (now piece) ≡ slotLength ⌝ }
     ensures { λ r. ⌜ r ≡ sessionAt (now (piece .entry)) ⌝ }
 {
     let kind = kind_at(piece[KIND_AT]);
-    let wait = wait_at(piece[WAIT_AT]);
+    let progress = progress_at(piece);
     Session {
         announced: Announced {
             key: Key {
@@ -99,12 +125,7 @@ pub fn session_at(piece: &[u8]) -> Session
             max: piece[MAX_AT],
             pgn: word_at(piece, PGN_AT),
         },
-        progress: Progress {
-            next: SegmentNumber(word_at(piece, NEXT_AT)),
-            granted: SegmentNumber(word_at(piece, GRANTED_AT)),
-            mark: word_at(piece, MARK_AT),
-            wait: wait,
-        },
+        progress: progress,
     }
 }
 

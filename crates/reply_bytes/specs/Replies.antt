@@ -52,7 +52,7 @@ replyFields reply.NothingDue len = keyed 13 0 noKey
 replyFields reply.Granted len = keyed 14 0 noKey
 replyFields (reply.Acknowledged k) len = keyed 15 0 k
 replyFields (reply.Aborted k) len = keyed 16 0 k
-replyFields (reply.Ended e) len = endedFields 17 e
+replyFields (reply.Ended e) len = endedFields 17 0 e
 replyFields (reply.Refused n) len = keyed 18 (numberOf n) noKey
 
 -- the refusal's number, 0 where nothing is refused

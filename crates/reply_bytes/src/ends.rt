@@ -31,7 +31,7 @@ fn put_end(s: SlotEnd, out: &mut [u8], at: usize)
             copy(out, at, &none, 0, ANSWER_BYTES);
         }
         End::Ended(e) => {
-            put_fields(ended_fields(17, e), out, at);
+            put_fields(ended_fields(17, 0, e), out, at);
             put_going(going_of_end(e), out, at);
         }
     }

@@ -76,7 +76,7 @@ fn reply_fields(r: Reply, len: usize) -> Fields
         Reply::Granted => keyed_fields(14, 0, no_key()),
         Reply::Acknowledged(k) => keyed_fields(15, 0, k),
         Reply::Aborted(k) => keyed_fields(16, 0, k),
-        Reply::Ended(e) => ended_fields(17, e),
+        Reply::Ended(e) => ended_fields(17, 0, e),
         Reply::Refused(n) => keyed_fields(18, refusal::number(n), no_key()),
     }
 }

@@ -3,7 +3,7 @@ use Prim.Native.Nat.{ℕ}
 use mathlib.Core.Path.{_≡_, refl}
 use mathlib.Core.List.{List, [], _∷_}
 use lib.ListN.{replicate}
-use Rattle.frame.specs.declared.refusal.Refusal.the-variants.{OutOfSequence, Silence, OutOfBounds, AnnouncementForm, FrameLength}
+use Rattle.frame.specs.declared.refusal.Refusal.the-variants.{OutOfSequence, RequestsSpent, Silence, OutOfBounds, AnnouncementForm, FrameLength}
 use Rattle.frame.specs.declared.judge.Route.{Route}
 use Rattle.multi_pg.specs.Groups.{groupsRead, readFrom}
 use Rattle.transport.specs.declared.Key.{Key}
@@ -44,7 +44,7 @@ pub record WholeCase : Type 0 where
   pub a : readingLines acceptance.Accepted (replicate 8 stays) ≡ []
   pub b : answerLines (0x40 ∷ 0xEA ∷ 0x00 ∷ 0x03 ∷ 0xCA ∷ 0xFE ∷ 0x00 ∷ []) (Groups route) [] ≡ ascii "pg 128 33 59904 3\n"
   pub c : printed (Grant (record { key = key; next = record { 0 = 1 }; count = 2; pgn = 65226 })) [] ≡ ascii "send cts 128 3 1 2\n"
-  pub d : printed (Ended (record { key = key; kind = Rts; refusal = OutOfSequence; pgn = 65226 })) [] ≡ ascii "send abort 128 3 19\n"
+  pub d : printed (Taken (record { key = key; number = record { 0 = 2 } })) [] ≡ ascii "took 128 3 2\n"
   pub last : endLine 4 ≡ ascii "end 4\n"
 
 pub whole-case : WholeCase
@@ -57,6 +57,8 @@ pub record OtherLines : Type 0 where
   pub handed-rts : printed (HandedOver (message Rts)) (0 ∷ 99 ∷ 255 ∷ []) ≡ ascii "send eoma 128 3\nmsg 128 33 3 65226 3 0 99 255\n"
   pub handed-bam : printed (HandedOver (message Bam)) (0 ∷ 99 ∷ 255 ∷ []) ≡ ascii "msg 128 33 3 65226 3 0 99 255\n"
   pub aborted : printed (Aborted key) [] ≡ ascii "ended 128 3 0\n"
+  pub ended-rts : printed (Ended (record { key = key; kind = Rts; refusal = OutOfSequence; pgn = 65226 })) [] ≡ ascii "send abort 128 3 19\n"
+  pub ended-spent : printed (Ended (record { key = key; kind = Rts; refusal = RequestsSpent; pgn = 65226 })) [] ≡ ascii "send abort 128 3 21\n"
   pub ended-bam : printed (Ended (record { key = key; kind = Bam; refusal = OutOfSequence; pgn = 65226 })) [] ≡ ascii "ended 128 3 19\n"
   pub rejected : printed (RefusedRts (record { key = key; refusal = AnnouncementForm; pgn = 65226 })) [] ≡ ascii "send abort 128 3 11\n"
   pub refused : printed (Refused FrameLength) [] ≡ ascii "refused 1\n"
@@ -73,6 +75,8 @@ other-lines =
       handed-rts = refl;
       handed-bam = refl;
       aborted = refl;
+      ended-rts = refl;
+      ended-spent = refl;
       ended-bam = refl;
       rejected = refl;
       refused = refl;

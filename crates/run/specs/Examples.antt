@@ -2,6 +2,8 @@
 use Prim.Native.Nat.{ℕ}
 use mathlib.Core.Path.{_≡_, refl}
 use mathlib.Core.List.{List, [], _∷_, _++_}
+use Rattle.segments.specs.Digits.{digit}
+use Rattle.segments.specs.Model.{isIn, missingOf}
 use Rattle.frame.specs.Judge.{judged, byFormat}
 use Rattle.multi_pg.specs.Groups.{groupsRead, readFrom}
 use Rattle.transport.specs.Control.{controlOf}
@@ -24,7 +26,7 @@ use Rattle.run.specs.Lines.{turnAt, linesFrom, linesIn, linesOf}
 abbrev line : List ℕ → List ℕ
 line text = text ++ (10 ∷ [])
 
--- (a) reading 0; (b) one group; (c) an RTS for 61 bytes in 2 segments; (d) its second segment first
+-- (a) reading 0; (b) one group; (c) an RTS for 61 bytes in 2 segments; (d) its second segment first, which is taken (02, E6)
 abbrev wholeCase : List ℕ
 wholeCase =
     0x00 ∷ 0x00
@@ -32,9 +34,9 @@ wholeCase =
     ∷ 0x01 ∷ 0x80 ∷ 0xC3 ∷ 0xB4 ∷ 0xE2 ∷ 0x01 ∷ 0x0C ∷ 0x30 ∷ 0x3D ∷ 0x00 ∷ 0x00 ∷ 0x02 ∷ 0x00 ∷ 0x00 ∷ 0xFF ∷ 0x00 ∷ 0xCA ∷ 0xFE ∷ 0x00
     ∷ 0x01 ∷ 0x80 ∷ 0xC3 ∷ 0xB8 ∷ 0xE2 ∷ 0x01 ∷ 0x05 ∷ 0x30 ∷ 0x02 ∷ 0x00 ∷ 0x00 ∷ 0x11 ∷ []
 
-pub whole-case : linesOf wholeCase ≡ line (ascii "pg 128 33 59904 3") ++ (line (ascii "send cts 128 3 1 2") ++ (line (ascii "send abort 128 3 19") ++ line (ascii "end 4")))
+pub whole-case : linesOf wholeCase ≡ line (ascii "pg 128 33 59904 3") ++ (line (ascii "send cts 128 3 1 2") ++ (line (ascii "took 128 3 2") ++ line (ascii "end 4")))
 unfolding linesOf linesIn linesFrom turnAt recordAt numberAt opened inBounds slotsOk frameAll judged byFormat controlStep controlOf
-    announceStep formOf announcedTo grantOf dataFrameOf segmentStep segmentTo judgedOf dueOf readingStep groupsRead readFrom
+    announceStep formOf announcedTo grantOf dataFrameOf segmentStep segmentTo judgedOf isIn missingOf digit dueOf readingStep groupsRead readFrom
     answerLines groupLines endsLines lineOf numbers spaced decimal digitsOf widthOf widthFrom
 whole-case = refl
 

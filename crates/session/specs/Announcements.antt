@@ -1,9 +1,10 @@
--- An announcement judged, and the session that it opens: 01, "Announcement".
+-- An announcement judged, and the session that it opens: 01, "Announcement"; 02, E6.
 use Prim.Native.Nat.{ℕ, _+_, _/_}
 use mathlib.Core.Bool.{Bool, cond, not, _&&_, _||_}
 use lib.Dec.{eqb, ltb}
 use Rattle.frame.specs.Pgn.{pgnOk}
 use Rattle.transport.specs.Kinds.{isRts}
+use Rattle.segments.specs.Model.{noneIn}
 use Rattle.progress.specs.declared.Announced.{Announced}
 use Rattle.progress.specs.Forward.{grantOf}
 use Rattle.progress.specs.Waits.{waitAfter}
@@ -49,13 +50,17 @@ abbrev pub announcedBy : Key → Announcement → Announced
 announcedBy k a =
     record { key = k; kind = a .kind; total = a .total; segments = a .segments; max = a .max; pgn = a .pgn }
 
--- none taken, and marked with the last reading; an RTS is answered by CTS, a BAM is not
+-- none taken, and marked with the last reading; an RTS is answered by CTS, a BAM is not. A BAM waits for segment 1; an RTS has a record in
+-- place of that, all are missing, and none was asked for
 abbrev pub sessionOf : Key → Announcement → ℕ → Session
 sessionOf k a last =
     record {
       announced = announcedBy k a;
       progress = record {
-        next = record { 0 = 1 };
+        next = record { 0 = cond (isRts (a .kind)) 0 1 };
+        taken = noneIn;
+        missing = cond (isRts (a .kind)) (a .segments .0) 0;
+        requests = 0;
         granted = record { 0 = firstGranted a };
         mark = last;
         wait = waitAfter (isRts (a .kind));

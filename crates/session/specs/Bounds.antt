@@ -1,9 +1,10 @@
--- When an open session is in bounds: 01, "Numbered refusals".
+-- When an open session is in bounds: 01, "Numbered refusals"; 02, E4 and E6.
 use Prim.Native.Nat.{ℕ, _+_, _/_, _≤_}
 use mathlib.Core.Path.{_≡_}
-use mathlib.Core.Logic.{_⊎_}
-use mathlib.Core.Bool.{Bool, true, cond, not, _&&_, _||_}
+use mathlib.Core.Bool.{Bool, true, false, cond, not, _&&_, _||_}
 use lib.Dec.{eqb, leb}
+use Rattle.segments.specs.declared.Segments.{Segments}
+use Rattle.segments.specs.Model.{agrees}
 use Rattle.frame.specs.declared.Address.{Address}
 use Rattle.frame.specs.Pgn.{pgnOk}
 use Rattle.transport.specs.declared.Key.{Key}
@@ -34,20 +35,20 @@ takenHere k da own =
 abbrev pub keyOk : Address → Announced → Bool
 keyOk own a = takenHere (a .key) (cond (isRts (a .kind)) (own .0) 255) own
 
--- next segment from 1 to segments + 1; for RTS the last granted from the next segment to the count, or the count when all are in
-abbrev pub reachOk : ℕ → ℕ → ℕ → Bool → Bool
-reachOk next granted segments rts =
-    leb 1 next
-    && leb next (segments + 1)
-    && (not rts || (leb next granted && leb granted segments) || (eqb next (segments + 1) && eqb granted segments))
+-- an RTS: nothing past the segment count, the number missing as the record has it, at most five requests, last granted from 1 to the
+-- count
+abbrev pub gatheredOk : Segments → ℕ → ℕ → ℕ → ℕ → Bool
+gatheredOk taken missing requests granted segments =
+    agrees taken segments missing && leb requests 5 && leb 1 granted && leb granted segments
 
--- 02, E4: a BAM has no CTS, and so only the second wait
-abbrev pub waitOk : Bool → Wait → Bool
-waitOk rts wait = rts || isSecond wait
+-- a BAM: the next segment from 1 to segments + 1; it has no CTS, and so only the second wait
+abbrev pub sequenceOk : ℕ → ℕ → Wait → Bool
+sequenceOk next segments wait = leb 1 next && leb next (segments + 1) && isSecond wait
 
 abbrev pub progressOk : Announced → Progress → Bool
 progressOk a p =
-    reachOk (p .next .0) (p .granted .0) (a .segments .0) (isRts (a .kind)) && waitOk (isRts (a .kind)) (p .wait)
+    cond (isRts (a .kind)) (gatheredOk (p .taken) (p .missing) (p .requests) (p .granted .0) (a .segments .0))
+    (sequenceOk (p .next .0) (a .segments .0) (p .wait))
 
 abbrev pub sessionOk : Address → Session → Bool
 sessionOk own s = announcedOk (s .announced) && keyOk own (s .announced) && progressOk (s .announced) (s .progress)
@@ -68,12 +69,17 @@ pub record Agreed (kind : Kind) (total segments max pgn : ℕ) : Type 0 where
 abbrev pub AgreedIn : Announced → Type 0
 AgreedIn a = Agreed (a .kind) (a .total .0) (a .segments .0) (a .max) (a .pgn)
 
-abbrev pub Ahead : ℕ → ℕ → ℕ → Type 0
-Ahead next granted segments =
-    ((next ≤ granted) × (granted ≤ segments)) ⊎ ((next ≡ segments + 1) × (granted ≡ segments))
+pub record Gathered (taken : Segments) (missing requests granted segments : ℕ) : Type 0 where
+  pub agree : agrees taken segments missing ≡ true
+  pub few : requests ≤ 5
+  pub low : 1 ≤ granted
+  pub high : granted ≤ segments
+
+pub record InSequence (next segments : ℕ) (wait : Wait) : Type 0 where
+  pub low : 1 ≤ next
+  pub high : next ≤ segments + 1
+  pub second : isSecond wait ≡ true
 
 pub record Reached (a : Announced) (p : Progress) : Type 0 where
-  pub low : 1 ≤ p .next .0
-  pub high : p .next .0 ≤ a .segments .0 + 1
-  pub ahead : isRts (a .kind) ≡ true → Ahead (p .next .0) (p .granted .0) (a .segments .0)
-  pub wait : waitOk (isRts (a .kind)) (p .wait) ≡ true
+  pub gathered : isRts (a .kind) ≡ true → Gathered (p .taken) (p .missing) (p .requests) (p .granted .0) (a .segments .0)
+  pub sequence : isRts (a .kind) ≡ false → InSequence (p .next .0) (a .segments .0) (p .wait)

@@ -2,9 +2,9 @@
 -- open is Closed.
 use Prim.Native.Nat.{ℕ}
 use mathlib.Core.Bool.{Bool, cond, not, _&&_}
-use lib.Dec.{eqb}
+use lib.Dec.{eqb, ltb}
 use Rattle.frame.specs.declared.refusal.Refusal.{Refusal}
-use Rattle.frame.specs.declared.refusal.Refusal.the-variants.{AnnouncementForm, KeyOpen, SlotsFull, KeyNotOpen, FormatIndicator, StatusMismatch, Silence}
+use Rattle.frame.specs.declared.refusal.Refusal.the-variants.{AnnouncementForm, KeyOpen, SlotsFull, KeyNotOpen, FormatIndicator, StatusMismatch, RequestsSpent, Silence}
 use Rattle.transport.specs.Kinds.{isRts}
 use Rattle.transport.specs.declared.Key.{Key}
 use Rattle.transport.specs.declared.announcement.Announcement.{Announcement}
@@ -18,6 +18,7 @@ use Rattle.answer.specs.declared.End.{End}
 use Rattle.answer.specs.declared.End.the-variants as end
 use Rattle.progress.specs.declared.Progress.{Progress}
 use Rattle.progress.specs.Forward.{ctsDue, advancedBy}
+use Rattle.progress.specs.Requests.{requestedBy}
 use Rattle.progress.specs.Waits.{limitIn}
 use Rattle.progress.specs.declared.wait.IdleLimits.{IdleLimits}
 use Rattle.session.specs.declared.Session.{Session}
@@ -32,7 +33,7 @@ use Rattle.session.specs.declared.segment.Judged.{Judged}
 use Rattle.session.specs.declared.segment.Judged.the-variants as judged
 use Rattle.session.specs.Announcements.{misdirected, formOf, sessionOf, firstCts}
 use Rattle.session.specs.Segments.{judgedOf, nextCts}
-use Rattle.session.specs.Ends.{statusMatches, isIdle}
+use Rattle.session.specs.Ends.{statusMatches, allIn, requestCts, isIdle}
 
 -- ---- what is known of a key after a change
 
@@ -141,13 +142,30 @@ messageOf slot s =
       slot = slot;
     }
 
-abbrev pub statusOpen : Session → ℕ → Status → Step
-statusOpen s slot st =
-    cond (statusMatches s st) (record { change = Ends; answer = answer.HandedOver (messageOf slot s) })
+-- the message is handed over, and the slot is free
+abbrev pub handsOver : ℕ → Session → Step
+handsOver slot s = record { change = Ends; answer = answer.HandedOver (messageOf slot s) }
+
+-- 02, E6: the first missing run is asked for by CTS
+abbrev pub asks : Session → ℕ → Step
+asks s last =
+    record {
+      change = Moves (requestedBy (s .progress) (s .announced) last);
+      answer = answer.Grant (requestCts s);
+    }
+
+-- segments are missing: each RTS session allows five requests
+abbrev pub lacks : Session → ℕ → Step
+lacks s last =
+    cond (isRts (s .announced .kind)) (cond (ltb (s .progress .requests) 5) (asks s last) (ended s RequestsSpent))
     (ended s StatusMismatch)
 
-unfoldable pub statusTo : State → ℕ → Status → Step
-statusTo x slot st = ifOpen x (λ s. statusOpen s slot st)
+abbrev pub statusOpen : Session → ℕ → Status → ℕ → Step
+statusOpen s slot st last =
+    cond (statusMatches s st) (cond (allIn s) (handsOver slot s) (lacks s last)) (ended s StatusMismatch)
+
+unfoldable pub statusTo : State → ℕ → Status → ℕ → Step
+statusTo x slot st last = ifOpen x (λ s. statusOpen s slot st last)
 
 -- one of another PGN is 16
 abbrev pub abortOpen : Session → ℕ → Step

@@ -8,7 +8,7 @@ use lib.Dec.{eqb, ltb}
 use Rattle.frame.specs.Refusals.{numberOf}
 use Rattle.frame.specs.Pgn.{pgnOk}
 use Rattle.frame.specs.declared.refusal.Refusal.{Refusal}
-use Rattle.frame.specs.declared.refusal.Refusal.the-variants.{PgnForm, AnnouncementForm, TooLong, Assurance, KeyOpen, SlotsFull, KeyNotOpen, FormatIndicator, AlreadyTaken, OutOfSequence, SegmentCut, StatusMismatch}
+use Rattle.frame.specs.declared.refusal.Refusal.the-variants.{PgnForm, AnnouncementForm, TooLong, Assurance, KeyOpen, SlotsFull, KeyNotOpen, FormatIndicator, AlreadyTaken, OutOfSequence, SegmentCut, StatusMismatch, RequestsSpent}
 use Rattle.transport.specs.Kinds.{isRts}
 use Rattle.transport.specs.declared.Key.{Key}
 use Rattle.transport.specs.declared.announcement.Announcement.{Announcement}
@@ -29,9 +29,9 @@ use Rattle.session.specs.declared.announcement.Form.the-variants as form
 use Rattle.session.specs.declared.segment.Judged.{Judged}
 use Rattle.session.specs.declared.segment.Judged.the-variants as judged
 use Rattle.session.specs.Announcements.{misdirected, badNumbers, formOf, sessionOf, firstCts}
-use Rattle.session.specs.Segments.{dueOf, judgedOf, nextCts}
-use Rattle.session.specs.Ends.{statusMatches}
+use Rattle.session.specs.Segments.{dueOf, alreadyIn, outOfTurn, judgedOf, nextCts}
 use Rattle.session.specs.Decisions.{stays, ended, ifOpen, rejection, acceptedIf, isRestart, forKey, onForm, announcedTo, onJudged, segmentOpen, segmentTo, messageOf, statusTo, abortTo}
+use Rattle.session.specs.Cases.{by-status}
 
 -- numbers of refusals that end no session and have nothing to do with bounds
 abbrev pub mild : ℕ → Bool
@@ -97,7 +97,7 @@ announce-effect x room k a last = go (misdirected (k .da) (a .kind)) (badNumbers
 segment-open : (s : Session) (n room last : ℕ) → Effect (Open s) (onJudged (judgedOf s n room) s n last)
 unfolding judgedOf
 segment-open s n room last =
-    go (eqb n 0 || ltb n (s .progress .next .0)) (ltb (s .progress .next .0) n || ltb (s .announced .segments .0) n) (ltb room (dueOf (s .announced .total .0) n))
+    go (eqb n 0 || alreadyIn s n) (outOfTurn s n || ltb (s .announced .segments .0) n) (ltb room (dueOf (s .announced .total .0) n))
   where
     taken : (t : Bool) → Effect (Open s) (record {
       change = Moves (advancedBy (s .progress) (s .announced) n last);
@@ -121,14 +121,11 @@ segment-effect x sg last = go x (not (eqb (sg .format) 0))
     go Closed false = refuses Closed (answer.Refused KeyNotOpen) refl
     go (Open s) false = segment-open s (sg .number .0) (sg .room) last
 
-pub status-effect : (x : State) (slot : ℕ) (st : Status) → Effect x (statusTo x slot st)
+pub status-effect : (x : State) (slot : ℕ) (st : Status) (last : ℕ) → Effect x (statusTo x slot st last)
 unfolding statusTo
-status-effect Closed slot st = refuses Closed (answer.Refused KeyNotOpen) refl
-status-effect (Open s) slot st = go (statusMatches s st)
-  where
-    go : (t : Bool) → Effect (Open s) (cond t (record { change = Ends; answer = answer.HandedOver (messageOf slot s) }) (ended s StatusMismatch))
-    go true = accepts refl
-    go false = ends s StatusMismatch refl (inr refl) refl
+status-effect Closed slot st last = refuses Closed (answer.Refused KeyNotOpen) refl
+status-effect (Open s) slot st last =
+    by-status (Effect (Open s)) s slot st last (ends s StatusMismatch refl (inr refl) refl) (λ _ _. accepts refl) (λ _ _ _. accepts refl) (ends s RequestsSpent refl (inr refl) refl)
 
 pub abort-effect : (x : State) (pgn : ℕ) → Effect x (abortTo x pgn)
 unfolding abortTo
@@ -179,14 +176,10 @@ segment-hands x slot sg last = go x (not (eqb (sg .format) 0))
     go Closed false = tt
     go (Open s) false = judges s (judgedOf s (sg .number .0) (sg .room))
 
-pub status-hands : (x : State) (slot : ℕ) (st : Status) → Hands x slot (statusTo x slot st .answer)
+pub status-hands : (x : State) (slot : ℕ) (st : Status) (last : ℕ) → Hands x slot (statusTo x slot st last .answer)
 unfolding statusTo
-status-hands Closed slot st = tt
-status-hands (Open s) slot st = go (statusMatches s st)
-  where
-    go : (t : Bool) → Hands (Open s) slot (cond t (record { change = Ends; answer = answer.HandedOver (messageOf slot s) }) (ended s StatusMismatch) .answer)
-    go true = refl
-    go false = tt
+status-hands Closed slot st last = tt
+status-hands (Open s) slot st last = by-status (λ (r : Step). Hands (Open s) slot (r .answer)) s slot st last tt (λ _ _. refl) (λ _ _ _. tt) tt
 
 pub abort-hands : (x : State) (slot pgn : ℕ) → Hands x slot (abortTo x pgn .answer)
 unfolding abortTo

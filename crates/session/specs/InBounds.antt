@@ -1,12 +1,13 @@
 -- A session stays in bounds, whatever it decides: 01, "Numbered refusals". Nothing here needs to be believed.
 use Prim.Native.Nat.{ℕ, _≤_}
-use mathlib.Core.Path.{_≡_, refl, sym, ap}
+use mathlib.Core.Path.{_≡_, refl, sym, ap, _∙_}
 use mathlib.Core.Logic.{_⊎_, inl, inr}
 use mathlib.Core.Bool.{Bool, true, false, cond, not, _||_, false≢true}
 use mathlib.Core.List.{[], _∷_}
-use lib.Dec.{eqb, leb}
-use borrow.Author.Tests.{le-leb, not-false}
+use lib.Dec.{eqb, leb, ltb}
+use borrow.Author.Tests.{le-leb, eqb-false, ltb-true, not-false}
 use Rattle.laws.specs.Choice.{each-of, all-of}
+use Rattle.laws.specs.Bools.{cond-true}
 use Rattle.frame.specs.declared.Address.{Address}
 use Rattle.transport.specs.Kinds.{isRts}
 use Rattle.transport.specs.declared.Key.{Key}
@@ -16,13 +17,15 @@ use Rattle.transport.specs.declared.announcement.Announcement.{Announcement}
 use Rattle.progress.specs.declared.Announced.{Announced}
 use Rattle.progress.specs.declared.Progress.{Progress}
 use Rattle.progress.specs.Forward.{advancedBy}
+use Rattle.progress.specs.Requests.{requestedBy}
 use Rattle.session.specs.declared.Session.{Session}
 use Rattle.session.specs.declared.announcement.Form.the-variants.{Good}
 use Rattle.session.specs.declared.segment.Judged.the-variants.{Takes}
 use Rattle.session.specs.Announcements.{misdirected, formOf, announcedBy, sessionOf}
 use Rattle.session.specs.Segments.{judgedOf}
+use Rattle.session.specs.Ends.{allIn}
 use Rattle.session.specs.Bounds.{announcedOk, keyOk, progressOk, sessionOk, AgreedIn, Reached}
-use Rattle.session.specs.Laws.{announced-agreed, agreed-announced, progress-reached, reached-progress, opened-agreed, opened-reached, advanced-reached}
+use Rattle.session.specs.Laws.{announced-agreed, agreed-announced, progress-reached, reached-progress, opened-agreed, opened-reached, advanced-reached, requested-reached}
 
 -- a key of which frames are taken here
 pub record KeyTaken (own : Address) (k : Key) : Type 0 where
@@ -91,3 +94,16 @@ moved-ok own s n room last e t =
     let h = sound-of own s e in
     of-sound own (record { announced = s .announced; progress = advancedBy (s .progress) (s .announced) n last })
     (record { agreed = h .agreed; key = h .key; reached = advanced-reached s n room last (h .agreed) (h .reached) t })
+
+-- ---- a session that asks for what is missing
+
+pub asked-ok : (own : Address) (s : Session) (last : ℕ) → sessionOk own s ≡ true → isRts (s .announced .kind) ≡ true → allIn s ≡ false → ltb (s .progress .requests) 5 ≡ true
+    → sessionOk own (record { announced = s .announced; progress = requestedBy (s .progress) (s .announced) last }) ≡ true
+asked-ok own s last e r short few =
+    let h = sound-of own s e in
+    of-sound own (record { announced = s .announced; progress = requestedBy (s .progress) (s .announced) last })
+    (record {
+      agreed = h .agreed;
+      key = h .key;
+      reached = requested-reached s last (h .agreed) (h .reached) r (eqb-false (s .progress .missing) 0 (sym (cond-true (isRts (s .announced .kind)) _ _ r) ∙ short)) (ltb-true (s .progress .requests) 5 few);
+    })

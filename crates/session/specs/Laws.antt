@@ -1,15 +1,16 @@
 -- What follows from the rules of one session: its bounds are kept, and its segments lie in the message.
 use Prim.Native.Nat.{ℕ, _+_, _-_, _*_, _/_, _≤_, _<_}
-use mathlib.Core.Path.{_≡_, refl, sym, _∙_}
-use mathlib.Core.Logic.{_⊎_, inl, inr}
-use mathlib.Core.Bool.{Bool, true, false, cond, not, _&&_, _||_, or-assoc, false≢true}
+use mathlib.Core.Path.{_≡_, refl, sym, ap, subst, _∙_}
+use mathlib.Core.Bool.{Bool, true, false, cond, not, _&&_, _||_}
 use mathlib.Core.List.{List, [], _∷_}
-use mathlib.Mathlib.Data.Bool.Basic.{or-inr}
 use native.Mathlib.Omega.{arith}
 use lib.Dec.{eqb, leb, ltb}
-use borrow.Author.Tests.{ltb-true, ltb-false, leb-true, eqb-true, eqb-false, le-leb, eq-eqb, not-false}
-use Rattle.laws.specs.Choice.{or-stop, each-of, all-of}
-use Rattle.laws.specs.Bools.{passed, or-either, neither-left, neither-right, not-both, implied, implies}
+use borrow.Author.Tests.{ltb-false, leb-true, eqb-true, eqb-false, le-leb, eq-eqb, not-false}
+use Rattle.laws.specs.Choice.{each-of, all-of}
+use Rattle.laws.specs.Bools.{clash, by-test, passed, neither-left, neither-right, not-both, implied, implies, cond-true, cond-false}
+use Rattle.segments.specs.declared.Segments.{Segments}
+use Rattle.segments.specs.Model.{isIn, putIn, missingOf, firstMissing, agrees}
+use Rattle.segments.specs.Laws.{agreed, agree-none, agree-put}
 use Rattle.frame.specs.Pgn.{pgnOk}
 use Rattle.frame.specs.declared.refusal.Refusal.{Refusal}
 use Rattle.frame.specs.declared.refusal.Refusal.the-variants.{PgnForm, AnnouncementForm, TooLong, Assurance, AlreadyTaken, OutOfSequence, SegmentCut}
@@ -24,11 +25,14 @@ use Rattle.session.specs.declared.segment.Judged.the-variants.{Refused, 
 use Rattle.transport.specs.Kinds.{isRts}
 use Rattle.progress.specs.declared.Announced.{Announced}
 use Rattle.progress.specs.declared.Progress.{Progress}
-use Rattle.progress.specs.Forward.{grantOf, advancedBy}
-use Rattle.progress.specs.Waits.{waitAfter}
+use Rattle.progress.specs.declared.wait.Wait.{Wait}
+use Rattle.progress.specs.Forward.{grantOf, ctsDue, advancedBy}
+use Rattle.progress.specs.Requests.{askedCount, requestedBy}
+use Rattle.progress.specs.Asked.{asked-from, asked-to, asked-some}
+use Rattle.progress.specs.Waits.{isSecond}
 use Rattle.session.specs.Announcements.{badNumbers, formOf, announcedBy, sessionOf}
-use Rattle.session.specs.Segments.{dueOf, judgedOf}
-use Rattle.session.specs.Bounds.{announcedOk, waitOk, progressOk, Agreed, AgreedIn, Ahead, Reached}
+use Rattle.session.specs.Segments.{dueOf, alreadyIn, outOfTurn, judgedOf}
+use Rattle.session.specs.Bounds.{announcedOk, gatheredOk, sequenceOk, progressOk, Agreed, AgreedIn, Gathered, InSequence, Reached}
 
 -- ---- grants
 
@@ -41,24 +45,12 @@ unfolding grantOf
 grant-some max left m l = omega arith
 
 -- the last granted after segment n, whether or not a CTS is due
-pub grant-next : (n granted segments max : ℕ) → 1 ≤ max → n ≤ segments → n ≤ granted → granted ≤ segments
-    → Ahead (n + 1) (cond (eqb n granted && ltb n segments) (n + grantOf max (segments - n)) granted) segments
-grant-next n granted segments max m l g h = go (eqb n granted) refl (ltb n segments) refl
-  where
-    go : (a : Bool) → eqb n granted ≡ a → (b : Bool) → ltb n segments ≡ b
-        → Ahead (n + 1) (cond (a && b) (n + grantOf max (segments - n)) granted) segments
-    go true e true f =
-        let u : n < segments = ltb-true n segments f in
-        let some : 1 ≤ grantOf max (segments - n) = grant-some max (segments - n) m (omega arith) in
-        let left : grantOf max (segments - n) ≤ segments - n = grant-left max (segments - n) in
-        inl (omega arith, omega arith)
-    go true e false f =
-        let u : segments ≤ n = ltb-false n segments f in
-        let q : n ≡ granted = eqb-true n granted e in
-        inr (omega arith, omega arith)
-    go false e b f =
-        let q : n ≡ granted → ⊥ = eqb-false n granted e in
-        inl (omega arith, h)
+pub grant-next : (due : Bool) (n granted segments max : ℕ) → 1 ≤ n → n ≤ segments → 1 ≤ granted → granted ≤ segments
+    → (1 ≤ cond due (n + grantOf max (segments - n)) granted) × (cond due (n + grantOf max (segments - n)) granted ≤ segments)
+grant-next true n granted segments max l u g h =
+    let left : grantOf max (segments - n) ≤ segments - n = grant-left max (segments - n) in
+    (omega arith, omega arith)
+grant-next false n granted segments max l u g h = (g, h)
 
 -- ---- an announcement of good form
 
@@ -126,84 +118,77 @@ agreed-announced a h =
       ),
     )
 
+module _ (taken : Segments) (missing requests granted segments : ℕ) where
+  gathered-tests : List Bool
+  gathered-tests = agrees taken segments missing ∷ leb requests 5 ∷ leb 1 granted ∷ leb granted segments ∷ []
+
+  gathered-of : gatheredOk taken missing requests granted segments ≡ true → Gathered taken missing requests granted segments
+  unfolding gathered-tests
+  gathered-of e =
+      let t = each-of gathered-tests e in
+      record { agree = t .0; few = leb-true _ _ (t .1 .0); low = leb-true _ _ (t .1 .1 .0); high = leb-true _ _ (t .1 .1 .1 .0) }
+
+  of-gathered : Gathered taken missing requests granted segments → gatheredOk taken missing requests granted segments ≡ true
+  unfolding gathered-tests
+  of-gathered h = all-of gathered-tests (h .agree, (le-leb _ _ (h .few), (le-leb _ _ (h .low), (le-leb _ _ (h .high), tt))))
+
+module _ (next segments : ℕ) (wait : Wait) where
+  sequence-tests : List Bool
+  sequence-tests = leb 1 next ∷ leb next (segments + 1) ∷ isSecond wait ∷ []
+
+  sequence-of : sequenceOk next segments wait ≡ true → InSequence next segments wait
+  unfolding sequence-tests
+  sequence-of e =
+      let t = each-of sequence-tests e in
+      record { low = leb-true _ _ (t .0); high = leb-true _ _ (t .1 .0); second = t .1 .1 .0 }
+
+  of-sequence : InSequence next segments wait → sequenceOk next segments wait ≡ true
+  unfolding sequence-tests
+  of-sequence h = all-of sequence-tests (le-leb _ _ (h .low), (le-leb _ _ (h .high), (h .second, tt)))
+
 module _ (a : Announced) (p : Progress) where
-  rts : Bool
-  rts = isRts (a .kind)
-
-  waits : Bool
-  waits = leb (p .next .0) (p .granted .0) && leb (p .granted .0) (a .segments .0)
-
-  over : Bool
-  over = eqb (p .next .0) (a .segments .0 + 1) && eqb (p .granted .0) (a .segments .0)
-
-  progress-tests : List Bool
-  progress-tests =
-      leb 1 (p .next .0) ∷ leb (p .next .0) (a .segments .0 + 1) ∷ (not rts || waits || over) ∷ waitOk rts (p .wait) ∷ []
-
   pub progress-reached : progressOk a p ≡ true → Reached a p
-  unfolding rts waits over progress-tests
-  progress-reached e =
-      let t = each-of progress-tests e in
-      record {
-        low = leb-true _ _ (t .0);
-        high = leb-true _ _ (t .1 .0);
-        ahead = λ r. by (or-either waits over (implied rts (waits || over) (sym (or-assoc (not rts) waits over) ∙ t .1 .1 .0) r));
-        wait = t .1 .1 .1 .0;
-      }
-    where
-      by : (waits ≡ true) ⊎ (over ≡ true) → Ahead (p .next .0) (p .granted .0) (a .segments .0)
-      by (inl w) = let b = each-of (leb (p .next .0) (p .granted .0) ∷ leb (p .granted .0) (a .segments .0) ∷ []) w in inl (leb-true _ _ (b .0), leb-true _ _ (b .1 .0))
-      by (inr w) = let b = each-of (eqb (p .next .0) (a .segments .0 + 1) ∷ eqb (p .granted .0) (a .segments .0) ∷ []) w in inr (eqb-true _ _ (b .0), eqb-true _ _ (b .1 .0))
+  progress-reached e = record {
+    gathered = λ r. gathered-of (p .taken) (p .missing) (p .requests) (p .granted .0) (a .segments .0) (sym (cond-true (isRts (a .kind)) _ _ r) ∙ e);
+    sequence = λ r. sequence-of (p .next .0) (a .segments .0) (p .wait) (sym (cond-false (isRts (a .kind)) _ _ r) ∙ e);
+  }
 
   pub reached-progress : Reached a p → progressOk a p ≡ true
-  unfolding rts waits over progress-tests
-  reached-progress h =
-      all-of progress-tests (
-        le-leb _ _ (h .low),
-        (
-          le-leb _ _ (h .high),
-          (or-assoc (not rts) waits over ∙ implies rts (waits || over) (λ r. by (h .ahead r)), (h .wait, tt)),
-        ),
-      )
-    where
-      by : Ahead (p .next .0) (p .granted .0) (a .segments .0) → (waits || over) ≡ true
-      by (inl w) =
-          sym (or-stop waits over (all-of (leb (p .next .0) (p .granted .0) ∷ leb (p .granted .0) (a .segments .0) ∷ []) (le-leb _ _ (w .0), (le-leb _ _ (w .1), tt))))
-      by (inr w) =
-          or-inr waits over (all-of (eqb (p .next .0) (a .segments .0 + 1) ∷ eqb (p .granted .0) (a .segments .0) ∷ []) (eq-eqb _ _ (w .0), (eq-eqb _ _ (w .1), tt)))
+  reached-progress h = by-test (isRts (a .kind))
+      (λ r. cond-true (isRts (a .kind)) _ _ r ∙ of-gathered (p .taken) (p .missing) (p .requests) (p .granted .0) (a .segments .0) (h .gathered r))
+      (λ r. cond-false (isRts (a .kind)) _ _ r ∙ of-sequence (p .next .0) (a .segments .0) (p .wait) (h .sequence r))
 
 -- ---- a session is in bounds when it opens
 
 pub opened-agreed : (k : Key) (a : Announcement) → formOf a ≡ Good → AgreedIn (announcedBy k a)
 opened-agreed k a e = form-agreed a e .0
 
+few-segments : (kind : Kind) (total segments max pgn : ℕ) → Agreed kind total segments max pgn → (1 ≤ segments) × (segments ≤ 69)
+few-segments kind total segments max pgn h = (omega arith, omega arith)
+
 pub opened-reached : (k : Key) (a : Announcement) (last : ℕ) → formOf a ≡ Good → Reached (announcedBy k a) (sessionOf k a last .progress)
 opened-reached k a last e =
     let f = form-agreed a e .0 in
-    let some : 1 ≤ a .segments .0 = omega arith in
+    let few = few-segments (a .kind) (a .total .0) (a .segments .0) (a .max) (a .pgn) f in
     record {
-      low = omega arith;
-      high = omega arith;
-      ahead = λ r. by (isRts (a .kind)) r some (f .grants r);
-      wait = begins (isRts (a .kind));
+      gathered = λ r. rw r (record {
+        agree = agree-none (a .segments .0) (few .1);
+        few = omega arith;
+        low = grant-some (a .max) (a .segments .0) (f .grants r) (few .0);
+        high = grant-left (a .max) (a .segments .0);
+      });
+      sequence = λ r. rw r (record { low = omega arith; high = omega arith; second = refl });
     }
-  where
-    begins : (rts : Bool) → waitOk rts (waitAfter rts) ≡ true
-    begins true = refl
-    begins false = refl
-
-    by : (rts : Bool) → rts ≡ true → 1 ≤ a .segments .0 → 1 ≤ a .max
-        → Ahead 1 (cond rts (grantOf (a .max) (a .segments .0)) 0) (a .segments .0)
-    by true r l m = inl (grant-some _ _ m l, grant-left _ _)
-    by false r l m = absurd (false≢true r)
 
 -- ---- a segment that is taken
 
-pub record InTurn (s : Session) (n room : ℕ) : Type 0 where
-  pub next : n ≡ s .progress .next .0
+pub record Taking (s : Session) (n room : ℕ) : Type 0 where
   pub low : 1 ≤ n
   pub high : n ≤ s .announced .segments .0
   pub enough : dueOf (s .announced .total .0) n ≤ room
+  -- it is not in an RTS's record, and is a BAM's next
+  pub new : isRts (s .announced .kind) ≡ true → isIn (s .progress .taken) n ≡ false
+  pub next : isRts (s .announced .kind) ≡ false → n ≡ s .progress .next .0
 
 refused≢takes : (x : Refusal) → Refused x ≡ Takes → ⊥
 refused≢takes x e = let z : _≡_ {A = ℕ} 0 1 = cc in omega arith
@@ -211,21 +196,25 @@ refused≢takes x e = let z : _≡_ {A = ℕ} 0 1 = cc in omega arith
 ends≢takes : (x : Refusal) → Ends x ≡ Takes → ⊥
 ends≢takes x e = let z : _≡_ {A = ℕ} 0 1 = cc in omega arith
 
-pub takes-in-turn : (s : Session) (n room : ℕ) → judgedOf s n room ≡ Takes → InTurn s n room
+pub takes-taking : (s : Session) (n room : ℕ) → judgedOf s n room ≡ Takes → Taking s n room
 unfolding judgedOf
-takes-in-turn s n room e =
+takes-taking s n room e =
+    let rts : Bool = isRts (s .announced .kind) in
     let next : ℕ = s .progress .next .0 in
-    let p₁ = passed (eqb n 0 || ltb n next) _ _ _ (refused≢takes _) e in
-    let p₂ = passed (ltb next n || ltb (s .announced .segments .0) n) _ _ _ (ends≢takes _) (p₁ .1) in
+    let p₁ = passed (eqb n 0 || alreadyIn s n) _ _ _ (refused≢takes _) e in
+    let p₂ = passed (outOfTurn s n || ltb (s .announced .segments .0) n) _ _ _ (ends≢takes _) (p₁ .1) in
     let p₃ = passed (ltb room (dueOf (s .announced .total .0) n)) _ _ _ (refused≢takes _) (p₂ .1) in
     let not-zero : n ≡ 0 → ⊥ = eqb-false _ _ (neither-left _ _ (p₁ .0)) in
-    let not-below : s .progress .next .0 ≤ n = ltb-false _ _ (neither-right (eqb n 0) _ (p₁ .0)) in
-    let not-above : n ≤ s .progress .next .0 = ltb-false _ _ (neither-left _ _ (p₂ .0)) in
     record {
-      next = omega arith;
       low = omega arith;
-      high = ltb-false _ _ (neither-right (ltb next n) _ (p₂ .0));
+      high = ltb-false _ _ (neither-right (outOfTurn s n) _ (p₂ .0));
       enough = ltb-false _ _ (p₃ .0);
+      new = λ r. sym (cond-true rts _ _ r) ∙ neither-right (eqb n 0) (alreadyIn s n) (p₁ .0);
+      next =
+          λ r.
+          let not-below : s .progress .next .0 ≤ n = ltb-false _ _ (sym (cond-false rts _ _ r) ∙ neither-right (eqb n 0) (alreadyIn s n) (p₁ .0)) in
+          let not-above : n ≤ s .progress .next .0 = ltb-false _ _ (not-both (not rts) (ltb next n) (neither-left (outOfTurn s n) (ltb (s .announced .segments .0) n) (p₂ .0)) (ap not r)) in
+          omega arith;
     }
 
 -- ---- a session stays in bounds as segments are taken
@@ -233,24 +222,42 @@ takes-in-turn s n room e =
 pub advanced-reached : (s : Session) (n room last : ℕ) → AgreedIn (s .announced) → Reached (s .announced) (s .progress) → judgedOf s n room ≡ Takes
     → Reached (s .announced) (advancedBy (s .progress) (s .announced) n last)
 advanced-reached s n room last a p e =
-    let t = takes-in-turn s n room e in
+    let t = takes-taking s n room e in
     record {
-      low = omega arith;
-      high = omega arith;
-      ahead = λ r. by (isRts (s .announced .kind)) r t (p .ahead r) (a .grants r);
-      wait = goes-on (isRts (s .announced .kind)) (eqb n (s .progress .granted .0)) (ltb n (s .announced .segments .0));
+      gathered =
+          λ r.
+          let g = p .gathered r in
+          let put = agree-put (s .progress .taken) (s .announced .segments .0) (s .progress .missing) n (g .agree) (t .low) (t .high) (t .new r) in
+          let next = grant-next (ctsDue (s .progress) (s .announced) n) n (s .progress .granted .0) (s .announced .segments .0) (s .announced .max) (t .low) (t .high) (g .low) (g .high) in
+          record {
+            agree = subst (λ (u : Bool). agrees (cond u (putIn (s .progress .taken) n) (s .progress .taken)) (s .announced .segments .0) (cond u (s .progress .missing - 1) (s .progress .missing)) ≡ true) (sym r) (put .1);
+            few = g .few;
+            low = next .0;
+            high = next .1;
+          };
+      sequence =
+          λ r.
+          let q = p .sequence r in
+          rw r (record { low = omega arith; high = omega arith; second = refl });
     }
-  where
-    goes-on : (rts used left : Bool) → waitOk rts (waitAfter (rts && used && left)) ≡ true
-    goes-on true used left = refl
-    goes-on false used left = refl
 
-    by : (rts : Bool) → rts ≡ true → InTurn s n room → Ahead (s .progress .next .0) (s .progress .granted .0) (s .announced .segments .0) → 1 ≤ s .announced .max
-        → Ahead (n + 1) (cond (rts && eqb n (s .progress .granted .0) && ltb n (s .announced .segments .0))
-        (n + grantOf (s .announced .max) (s .announced .segments .0 - n)) (s .progress .granted .0)) (s .announced .segments .0)
-    by true r t (inl w) m = grant-next n (s .progress .granted .0) (s .announced .segments .0) (s .announced .max) m (t .high) (omega arith) (w .1)
-    by true r t (inr w) m = absurd (omega arith)
-    by false r t w m = absurd (false≢true r)
+-- and as missing ones are asked for
+pub requested-reached : (s : Session) (last : ℕ) → AgreedIn (s .announced) → Reached (s .announced) (s .progress) → isRts (s .announced .kind) ≡ true
+    → (s .progress .missing ≡ 0 → ⊥) → s .progress .requests < 5 → Reached (s .announced) (requestedBy (s .progress) (s .announced) last)
+requested-reached s last a p r some few =
+    let g = p .gathered r in
+    let taken : Segments = s .progress .taken in
+    let segments : ℕ = s .announced .segments .0 in
+    let left : missingOf (s .progress .taken) (s .announced .segments .0) ≡ s .progress .missing = agreed taken segments (s .progress .missing) (g .agree) .missing in
+    let from : 1 ≤ firstMissing (s .progress .taken) (s .announced .segments .0) = asked-from taken segments (s .announced .max) in
+    let to : firstMissing (s .progress .taken) (s .announced .segments .0) - 1 + askedCount (s .progress .taken) (s .announced .segments .0) (s .announced .max) ≤ s .announced .segments .0 =
+    asked-to taken segments (s .announced .max) in
+    let one : 1 ≤ askedCount (s .progress .taken) (s .announced .segments .0) (s .announced .max) =
+    asked-some taken segments (s .announced .max) (omega arith) (a .grants r) in
+    record {
+      gathered = λ _. record { agree = g .agree; few = omega arith; low = omega arith; high = omega arith };
+      sequence = λ q. absurd (clash (isRts (s .announced .kind)) r q);
+    }
 
 -- ---- where the data of a segment lies
 
@@ -267,5 +274,5 @@ segment-apart total i n l u = omega arith
 -- the data of a segment that is taken lies in the message, and so in a slot
 pub taken-inside : (s : Session) (n room : ℕ) → AgreedIn (s .announced) → judgedOf s n room ≡ Takes → 60 * (n - 1) + dueOf (s .announced .total .0) n ≤ s .announced .total .0
 taken-inside s n room a e =
-    let t = takes-in-turn s n room e in
+    let t = takes-taking s n room e in
     segment-inside (s .announced .total .0) n (t .low) (omega arith)

@@ -3,6 +3,7 @@ pub mod Segments
 pub mod Ends
 pub mod Bounds
 pub mod Decisions
+pub mod Cases
 pub mod Laws
 pub mod Steps
 pub mod Table

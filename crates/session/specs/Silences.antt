@@ -4,7 +4,7 @@ use mathlib.Core.Path.{_≡_, refl}
 use mathlib.Core.Bool.{Bool, true, false, cond, not}
 use lib.Dec.{eqb}
 use Rattle.frame.specs.declared.refusal.Refusal.{Refusal}
-use Rattle.frame.specs.declared.refusal.Refusal.the-variants.{AnnouncementForm, KeyOpen, SlotsFull, FormatIndicator, KeyNotOpen, StatusMismatch}
+use Rattle.frame.specs.declared.refusal.Refusal.the-variants.{AnnouncementForm, KeyOpen, SlotsFull, FormatIndicator, KeyNotOpen}
 use Rattle.transport.specs.Kinds.{isRts}
 use Rattle.transport.specs.declared.Key.{Key}
 use Rattle.transport.specs.declared.announcement.Announcement.{Announcement}
@@ -29,8 +29,8 @@ use Rattle.session.specs.declared.segment.Judged.{Judged}
 use Rattle.session.specs.declared.segment.Judged.the-variants as judged
 use Rattle.session.specs.Announcements.{misdirected, formOf, sessionOf, firstCts}
 use Rattle.session.specs.Segments.{judgedOf, nextCts}
-use Rattle.session.specs.Ends.{statusMatches}
-use Rattle.session.specs.Decisions.{stays, refused, ended, messageOf, ifOpen, rejection, acceptedIf, isRestart, onForm, announcedTo, onJudged, segmentOpen, segmentTo, statusTo, abortTo}
+use Rattle.session.specs.Decisions.{stays, refused, ifOpen, rejection, acceptedIf, isRestart, onForm, announcedTo, onJudged, segmentOpen, segmentTo, statusTo, abortTo}
+use Rattle.session.specs.Cases.{by-status}
 
 -- the session of key κ goes on in the wait w, which counts from the last reading
 abbrev pub GoesOn : Key → Change → Wait → ℕ → Type 0
@@ -113,14 +113,10 @@ segment-starts x k sg last = go (not (eqb (sg .format) 0)) x
 
 -- ---- the end
 
-pub status-starts : (x : State) (k : Key) (slot : ℕ) (st : Status) (last : ℕ) → StepStarts k (statusTo x slot st) last
+pub status-starts : (x : State) (k : Key) (slot : ℕ) (st : Status) (last : ℕ) → StepStarts k (statusTo x slot st last) last
 unfolding statusTo
 status-starts Closed k slot st last = tt
-status-starts (Open s) k slot st last = go (statusMatches s st)
-  where
-    go : (t : Bool) → StepStarts k (cond t (record { change = Ends; answer = answer.HandedOver (messageOf slot s) }) (ended s StatusMismatch)) last
-    go true = tt
-    go false = tt
+status-starts (Open s) k slot st last = by-status (λ (r : Step). StepStarts k r last) s slot st last tt (λ _ _. tt) (λ _ _ _. (refl, refl)) tt
 
 pub abort-starts : (x : State) (k : Key) (pgn last : ℕ) → StepStarts k (abortTo x pgn) last
 unfolding abortTo

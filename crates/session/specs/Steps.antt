@@ -1,12 +1,12 @@
--- What the steps of a session leave to whoever applies them: a session moves on or ends only where it is open, and moves on only by a
--- segment that is taken.
+-- What the steps of a session leave to whoever applies them: a session moves on or ends only where it is open, and by a segment it moves
+-- on only where that is taken.
 use Prim.Native.Nat.{ℕ}
 use mathlib.Core.Path.{_≡_, refl}
 use mathlib.Core.Bool.{Bool, true, false, cond, not}
 use native.Mathlib.Omega.{arith}
 use lib.Dec.{eqb}
 use Rattle.frame.specs.declared.refusal.Refusal.{Refusal}
-use Rattle.frame.specs.declared.refusal.Refusal.the-variants.{AnnouncementForm, KeyOpen, SlotsFull, FormatIndicator, KeyNotOpen, StatusMismatch}
+use Rattle.frame.specs.declared.refusal.Refusal.the-variants.{AnnouncementForm, KeyOpen, SlotsFull, FormatIndicator, KeyNotOpen}
 use Rattle.transport.specs.declared.Key.{Key}
 use Rattle.transport.specs.declared.announcement.Announcement.{Announcement}
 use Rattle.transport.specs.declared.eoms.Status.{Status}
@@ -25,8 +25,8 @@ use Rattle.session.specs.declared.segment.Judged.{Judged}
 use Rattle.session.specs.declared.segment.Judged.the-variants as judged
 use Rattle.session.specs.Announcements.{misdirected, formOf}
 use Rattle.session.specs.Segments.{judgedOf}
-use Rattle.session.specs.Ends.{statusMatches}
-use Rattle.session.specs.Decisions.{refused, ended, messageOf, acceptedIf, isRestart, onForm, onJudged, ifOpen, segmentOpen, announcedTo, segmentTo, statusTo, abortTo}
+use Rattle.session.specs.Decisions.{refused, acceptedIf, isRestart, onForm, onJudged, ifOpen, segmentOpen, announcedTo, segmentTo, statusTo, abortTo}
+use Rattle.session.specs.Cases.{by-status}
 
 abbrev pub MeetsOpen : Change → State → Type 0
 MeetsOpen Stays x = Unit {0}
@@ -50,14 +50,10 @@ announce-meets x room k a last = go (misdirected (k .da) (a .kind)) (formOf a) x
     go false form.Good (Open s) = accepted (Open s) (isRestart s a) KeyOpen
     go false form.Good Closed = accepted Closed room SlotsFull
 
-pub status-meets : (x : State) (slot : ℕ) (st : Status) → MeetsOpen (statusTo x slot st .change) x
+pub status-meets : (x : State) (slot : ℕ) (st : Status) (last : ℕ) → MeetsOpen (statusTo x slot st last .change) x
 unfolding statusTo
-status-meets Closed slot st = tt
-status-meets (Open s) slot st = go (statusMatches s st)
-  where
-    go : (t : Bool) → MeetsOpen (cond t (record { change = Ends; answer = answer.HandedOver (messageOf slot s) }) (ended s StatusMismatch) .change) (Open s)
-    go true = tt
-    go false = tt
+status-meets Closed slot st last = tt
+status-meets (Open s) slot st last = by-status (λ (r : Step). MeetsOpen (r .change) (Open s)) s slot st last tt (λ _ _. tt) (λ _ _ _. tt) tt
 
 pub abort-meets : (x : State) (pgn : ℕ) → MeetsOpen (abortTo x pgn .change) x
 unfolding abortTo

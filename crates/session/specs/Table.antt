@@ -3,6 +3,8 @@ use Prim.Native.Nat.{ℕ, zero, suc}
 use mathlib.Core.Path.{_≡_, refl}
 use mathlib.Core.Bool.{Bool, true, false}
 use mathlib.Core.List.{List, [], _∷_}
+use Rattle.segments.specs.Digits.{digit}
+use Rattle.segments.specs.Model.{isIn}
 use Rattle.frame.specs.declared.refusal.Refusal.the-variants.{AnnouncementForm, TooLong}
 use Rattle.transport.specs.declared.Key.{Key}
 use Rattle.transport.specs.declared.Kind.the-variants.{Rts}
@@ -48,7 +50,7 @@ pub P9 : formOf (rtsOf 61 1) ≡ Bad AnnouncementForm
 unfolding formOf
 P9 = refl
 
--- the counts of the CTS that are sent while the next segments come, each in a frame of 64 bytes
+-- the counts of the CTS that are sent while segments n on come, k of them, each in a frame of 64 bytes
 abbrev counted : Answer → List ℕ → List ℕ
 counted (answer.Grant c) l = c .count ∷ l
 counted (answer.Groups route) l = l
@@ -66,18 +68,18 @@ onward Stays s f = []
 onward (Opens t) s f = []
 onward Ends s f = []
 
-unfoldable pub counts : ℕ → Session → List ℕ
-counts zero s = []
-counts (suc k) s =
-    let st : Step = segmentOpen s (s .progress .next .0) 60 0 in
-    counted (st .answer) (onward (st .change) s (counts k))
+unfoldable pub counts : ℕ → ℕ → Session → List ℕ
+counts zero n s = []
+counts (suc k) n s =
+    let st : Step = segmentOpen s n 60 0 in
+    counted (st .answer) (onward (st .change) s (counts k (suc n)))
 
 pub P10-form : formOf (rtsOf 4096 69) ≡ Good
 unfolding formOf
 P10-form = refl
 
-pub P10 : (k : Key) → firstCts k (rtsOf 4096 69) .count ∷ counts 69 (sessionOf k (rtsOf 4096 69) 0) ≡ 16 ∷ 16 ∷ 16 ∷ 16 ∷ 5 ∷ []
-unfolding counts judgedOf dueOf grantOf
+pub P10 : (k : Key) → firstCts k (rtsOf 4096 69) .count ∷ counts 69 1 (sessionOf k (rtsOf 4096 69) 0) ≡ 16 ∷ 16 ∷ 16 ∷ 16 ∷ 5 ∷ []
+unfolding counts judgedOf isIn digit dueOf grantOf
 P10 k = refl
 
 pub P11 : formOf (rtsOf 4097 69) ≡ Bad TooLong

@@ -1,5 +1,6 @@
 // An announcement judged, and the session that it opens (01, "Announcement").
 ghost use mathlib.Core.Path.{_≡_};
+ghost use mathlib.Core.Bool.{cond};
 ghost use Rattle.session.specs.Announcements.{misdirected, badNumbers, formOf, firstGranted, sessionOf, firstCts};
 ghost use Rattle.session.specs.Decisions.{rejection, opening, acceptedIf, isRestart, forKey, announcedTo};
 use super::Change;
@@ -17,6 +18,7 @@ use progress::Announced;
 use progress::Progress;
 use progress::grant::grant;
 use progress::wait::wait_after;
+use segments::none;
 use transport::Key;
 use transport::Kind;
 use transport::announcement::Announcement;
@@ -79,7 +81,13 @@ fn first_granted(a: Announcement) -> u32
     }
 }
 
-// The session that an announcement opens, marked with the last reading.
+fn choose(rts: bool, x: u32, y: u32) -> u32
+    ensures { λ r. ⌜ r ≡ cond rts x y ⌝ }
+{
+    if rts { x } else { y }
+}
+
+// The session that an announcement opens, marked with the last reading: a BAM waits for segment 1, an RTS misses all.
 fn open_session(key: Key, a: Announcement, last: u32) -> Session
     ensures { λ r. ⌜ r ≡ sessionOf key a last ⌝ }
 {
@@ -87,7 +95,11 @@ fn open_session(key: Key, a: Announcement, last: u32) -> Session
     let kind = a.kind;
     let total = a.total;
     let segments = a.segments;
-    let wait = wait_after(is_rts(kind));
+    let rts = is_rts(kind);
+    let next = choose(rts, 0, 1);
+    let missing = choose(rts, a.segments.0, 0);
+    let taken = none();
+    let wait = wait_after(rts);
     Session {
         announced: Announced {
             key: key,
@@ -98,7 +110,10 @@ fn open_session(key: Key, a: Announcement, last: u32) -> Session
             pgn: a.pgn,
         },
         progress: Progress {
-            next: SegmentNumber(1),
+            next: SegmentNumber(next),
+            taken: taken,
+            missing: missing,
+            requests: 0,
             granted: SegmentNumber(granted),
             mark: last,
             wait: wait,

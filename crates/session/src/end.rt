@@ -1,7 +1,8 @@
-// The end of a session by its originator (01, "End").
+// The end of a session by its originator, and what is missing then (01, "End"; 02, E6).
 ghost use mathlib.Core.Path.{_≡_};
-ghost use Rattle.session.specs.Ends.{statusMatches};
-ghost use Rattle.session.specs.Decisions.{endingOf, ended, messageOf, statusOpen, statusTo, abortOpen, abortTo};
+ghost use Prim.Native.Nat.{_<_};
+ghost use Rattle.session.specs.Ends.{statusMatches, allIn, lacking, requestCts};
+ghost use Rattle.session.specs.Decisions.{endingOf, ended, messageOf, asks, lacks, statusOpen, statusTo, abortOpen, abortTo};
 use super::Change;
 use super::Session;
 use super::State;
@@ -9,7 +10,15 @@ use super::Step;
 use answer::Answer;
 use answer::Ending;
 use answer::Message;
+use frame::SegmentNumber;
 use frame::refusal::Refusal;
+use progress::forward::minus;
+use progress::request::REQUESTS;
+use progress::request::asked_count;
+use progress::request::requested;
+use segments::first_missing;
+use transport::Kind;
+use transport::cts::Cts;
 use transport::eoms::Status;
 
 // A session that a refusal ends.
@@ -37,15 +46,88 @@ pub fn end_by(s: Session, n: Refusal) -> Step
     }
 }
 
-// Whether an EOMS finds every segment in and says what was announced; in 64 bits, where no sum wraps.
+// Whether an EOMS says what was announced.
 fn status_matches(s: Session, st: Status) -> bool
     ensures { λ r. ⌜ r ≡ statusMatches s st ⌝ }
 {
-    (s.progress.next.0 as u64 == s.announced.segments.0 as u64 + 1)
-        & (st.total.0 == s.announced.total.0)
+    (st.total.0 == s.announced.total.0)
         & (st.segments.0 == s.announced.segments.0)
         & (st.assurance == 0)
         & (st.pgn == s.announced.pgn)
+}
+
+// Whether every segment is in; in 64 bits, where no sum wraps.
+fn is_all_in(s: Session) -> bool
+    ensures { λ r. ⌜ r ≡ allIn s ⌝ }
+{
+    let a = s.announced;
+    let kind = a.kind;
+    match kind {
+        Kind::Rts => s.progress.missing == 0,
+        Kind::Bam => s.progress.next.0 as u64 == s.announced.segments.0 as u64 + 1,
+    }
+}
+
+// How many segments are not in; in 64 bits, where no sum wraps.
+pub fn missing_in(s: Session) -> u64
+    ensures { λ r. ⌜ r ≡ lacking s ⌝ }
+{
+    let a = s.announced;
+    let kind = a.kind;
+    match kind {
+        Kind::Rts => s.progress.missing as u64,
+        Kind::Bam => minus(s.announced.segments.0 as u64 + 1, s.progress.next.0 as u64),
+    }
+}
+
+// The CTS for the first missing run.
+fn request_cts(s: Session) -> Cts
+    ensures { λ r. ⌜ r ≡ requestCts s ⌝ }
+{
+    let a = s.announced;
+    let key = a.key;
+    let taken = s.progress.taken;
+    let first = first_missing(taken, a.segments.0);
+    let count = asked_count(taken, a.segments.0, a.max);
+    Cts {
+        key: key,
+        next: SegmentNumber(first),
+        count: count,
+        pgn: a.pgn,
+    }
+}
+
+// Missing segments are asked for.
+fn ask(s: Session, last: u32) -> Step
+    requires { ⌜ s .progress .requests < 5 ⌝ }
+    ensures { λ r. ⌜ r ≡ asks s last ⌝ }
+{
+    let p = s.progress;
+    let a = s.announced;
+    let after = requested(p, a, last);
+    let cts = request_cts(s);
+    Step {
+        change: Change::Moves(after),
+        answer: Answer::Grant(cts),
+    }
+}
+
+// An EOMS with segments missing: an RTS asks for them as often as it may, a BAM is 21.
+fn lack(s: Session, last: u32) -> Step
+    ensures { λ r. ⌜ r ≡ lacks s last ⌝ }
+{
+    let a = s.announced;
+    let kind = a.kind;
+    match kind {
+        Kind::Rts => {
+            if s.progress.requests < REQUESTS {
+                ask(s, last)
+            } else {
+                end_by(s, Refusal::RequestsSpent)
+            }
+        }
+        Kind::Bam => end_by(s, Refusal::StatusMismatch),
+    }
 }
 
 // The message of a session, whose bytes are in the slot.
@@ -67,12 +149,15 @@ fn message_of(s: Session, slot: usize) -> Message
     }
 }
 
-// An EOMS for an open session: the message is handed over, or 21.
-fn status_open(s: Session, slot: usize, st: Status) -> Step
-    ensures { λ r. ⌜ r ≡ statusOpen s slot st ⌝ }
+// An EOMS for an open session: 21 if it is not as announced; the message is handed over, or what is missing is asked for.
+fn status_open(s: Session, slot: usize, st: Status, last: u32) -> Step
+    ensures { λ r. ⌜ r ≡ statusOpen s slot st last ⌝ }
 {
     if !status_matches(s, st) {
         return end_by(s, Refusal::StatusMismatch);
+    }
+    if !is_all_in(s) {
+        return lack(s, last);
     }
     let message = message_of(s, slot);
     Step {
@@ -82,15 +167,15 @@ fn status_open(s: Session, slot: usize, st: Status) -> Step
 }
 
 // An EOMS for a key, with the slot where its data is; 16 where no session is open.
-pub fn status(x: State, slot: usize, st: Status) -> Step
-    ensures { λ r. ⌜ r ≡ statusTo x slot st ⌝ }
+pub fn status(x: State, slot: usize, st: Status, last: u32) -> Step
+    ensures { λ r. ⌜ r ≡ statusTo x slot st last ⌝ }
 {
     match x {
         State::Closed => Step {
             change: Change::Stays,
             answer: Answer::Refused(Refusal::KeyNotOpen),
         },
-        State::Open(s) => status_open(s, slot, st),
+        State::Open(s) => status_open(s, slot, st, last),
     }
 }
 

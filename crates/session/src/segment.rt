@@ -1,7 +1,7 @@
-// A segment judged, and the session brought forward by it (01, "Segment").
+// A segment judged, and the session brought forward by it (01, "Segment"; 02, E6).
 ghost use mathlib.Core.Path.{_≡_};
 ghost use Prim.Native.Nat.{_<_};
-ghost use Rattle.session.specs.Segments.{dueOf, judgedOf, nextCts};
+ghost use Rattle.session.specs.Segments.{dueOf, alreadyIn, outOfTurn, judgedOf, nextCts};
 ghost use Rattle.session.specs.Decisions.{taken, segmentOpen, segmentTo};
 use super::Change;
 use super::Session;
@@ -19,7 +19,9 @@ use progress::forward::is_cts_due;
 use progress::forward::minus;
 use progress::forward::next_count;
 use progress::grant::least;
+use segments::is_in;
 use transport::cts::Cts;
+use transport::is_rts;
 use transport::segment::Segment;
 
 pub enum Judged {
@@ -38,14 +40,44 @@ pub fn due(total: ByteCount, n: SegmentNumber) -> u32
     least(60, minus(total.0 as u64, before) as u32)
 }
 
+// Whether a segment is in: by the record of an RTS; a BAM's come in sequence.
+fn is_already_in(s: Session, n: SegmentNumber) -> bool
+    ensures { λ r. ⌜ r ≡ alreadyIn s (n .0) ⌝ }
+{
+    let a = s.announced;
+    let kind = a.kind;
+    if is_rts(kind) {
+        return is_in(s.progress.taken, n.0);
+    }
+    n.0 < s.progress.next.0
+}
+
+// Whether a BAM's segment is beyond the next one.
+fn is_out_of_turn(s: Session, n: SegmentNumber) -> bool
+    ensures { λ r. ⌜ r ≡ outOfTurn s (n .0) ⌝ }
+{
+    let a = s.announced;
+    let kind = a.kind;
+    if is_rts(kind) {
+        return false;
+    }
+    s.progress.next.0 < n.0
+}
+
 // A segment judged by its number and by the bytes that the frame has for data: 18, 19, 20.
 fn judge_segment(s: Session, n: SegmentNumber, room: usize) -> Judged
     ensures { λ r. ⌜ r ≡ judgedOf s (n .0) room ⌝ }
 {
-    if (n.0 == 0) | (n.0 < s.progress.next.0) {
+    if n.0 == 0 {
         return Judged::Refused(Refusal::AlreadyTaken);
     }
-    if (s.progress.next.0 < n.0) | (s.announced.segments.0 < n.0) {
+    if is_already_in(s, n) {
+        return Judged::Refused(Refusal::AlreadyTaken);
+    }
+    if is_out_of_turn(s, n) {
+        return Judged::Ends(Refusal::OutOfSequence);
+    }
+    if s.announced.segments.0 < n.0 {
         return Judged::Ends(Refusal::OutOfSequence);
     }
     if room < due(s.announced.total, n) as usize {

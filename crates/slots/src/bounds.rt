@@ -1,13 +1,15 @@
-// Whether opening values, and an open session, are in bounds (01, "Numbered refusals"; 02, E4).
+// Whether opening values, and an open session, are in bounds (01, "Numbered refusals"; 02, E4 and E6).
 ghost use mathlib.Core.Path.{_≡_};
 ghost use Rattle.session.specs.Bounds.{sessionOk};
 ghost use Rattle.slots.specs.Bounds.{openingOk, valuesOk};
-ghost use Rattle.slots.specs.ByKind.{numbersOk, nextOk, sourceOk, rtsOk, bamOk};
+ghost use Rattle.slots.specs.ByKind.{numbersOk, sourceOk, rtsOk, bamOk};
 use frame::Address;
 use frame::pgn;
+use progress::request::REQUESTS;
 use progress::wait::IdleLimits;
 use progress::wait::Wait;
 use progress::wait::is_second;
+use segments::agree;
 use session::Session;
 use transport::Key;
 use transport::Kind;
@@ -43,26 +45,18 @@ fn source_ok(key: Key, own: Address) -> bool
     (key.sa.0 <= 253) & (key.sa.0 != own.0) & (key.session.0 <= 15)
 }
 
-// The next segment is one of the message, or the one after its last.
-fn next_ok(next: u32, segments: u32) -> bool
-    ensures { λ r. ⌜ r ≡ nextOk next segments ⌝ }
+// An RTS goes to the own address and has MAX SGMTS, at most five requests made, and a last granted segment of the message.
+fn rts_ok(da: u8, own: u8, max: u8, requests: u8, granted: u32, segments: u32) -> bool
+    ensures { λ r. ⌜ r ≡ rtsOk da own max requests granted segments ⌝ }
 {
-    (1 <= next) & (next as u64 <= segments as u64 + 1)
+    (da == own) & ((1 <= max) & ((requests <= REQUESTS) & ((1 <= granted) & (granted <= segments))))
 }
 
-// An RTS goes to the own address and has MAX SGMTS, and where not all is granted, the next segment is.
-fn rts_ok(da: u8, own: u8, max: u8, next: u32, granted: u32, segments: u32) -> bool
-    ensures { λ r. ⌜ r ≡ rtsOk da own max next granted segments ⌝ }
+// A BAM goes to 255, waits for a segment of the message or the one after its last, and has only the second wait.
+fn bam_ok(da: u8, next: u32, segments: u32, wait: Wait) -> bool
+    ensures { λ r. ⌜ r ≡ bamOk da next segments wait ⌝ }
 {
-    (da == own)
-        & ((1 <= max) & ((granted <= segments) & ((granted == segments) | (next <= granted))))
-}
-
-// A BAM goes to 255, and has only the second wait.
-fn bam_ok(da: u8, wait: Wait) -> bool
-    ensures { λ r. ⌜ r ≡ bamOk da wait ⌝ }
-{
-    (da == 255) & is_second(wait)
+    (da == 255) & ((1 <= next) & ((next as u64 <= segments as u64 + 1) & is_second(wait)))
 }
 
 // Numbers go to each test, and no part of the session whole: it is read out of a record's bytes, and only what is tested is.
@@ -80,11 +74,20 @@ pub fn session_ok(s: Session, own: Address) -> bool
     if !source_ok(key, own) {
         return false;
     }
-    if !next_ok(p.next.0, a.segments.0) {
-        return false;
-    }
     match kind {
-        Kind::Rts => rts_ok(key.da.0, own.0, a.max, p.next.0, p.granted.0, a.segments.0),
-        Kind::Bam => bam_ok(key.da.0, wait),
+        Kind::Rts => {
+            if !rts_ok(
+                key.da.0,
+                own.0,
+                a.max,
+                p.requests,
+                p.granted.0,
+                a.segments.0,
+            ) {
+                return false;
+            }
+            agree(p.taken, a.segments.0, p.missing)
+        }
+        Kind::Bam => bam_ok(key.da.0, p.next.0, a.segments.0, wait),
     }
 }

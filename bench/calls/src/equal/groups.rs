@@ -1,13 +1,9 @@
 //! Groups unpacked and packed: plain's as include/dwaebinam.h lays them out, of good and of damaged frames and requests.
 
+use super::returned;
 use crate::frames::{multi_pg, request, Dice, Frame, Request, PLAIN, WITH_TRAILER};
 use crate::ours::{self, GROUPS_WORDS, GROUP_WORDS};
 use plain::{Group, Refusal, FRAME_BYTES, MOST_GROUPS};
-
-/// A call's result as C has it.
-fn returned(result: Result<usize, Refusal>) -> usize {
-    result.unwrap_or_else(|refusal| 256 * usize::from(refusal))
-}
 
 /// The numbers of a group. Its trailer has to be right behind its data.
 fn words(frame: &[u8], group: &Group) -> [u32; GROUP_WORDS] {

@@ -1,6 +1,6 @@
 //! The two waits of a session: readings about as late as either limit allows, and records whose limits or waits are out of bounds.
 
-use super::{kind, put, read, slot_at, wait_code, Pair, FIRST_AT, SECOND_AT, WAIT_AT};
+use super::{ask, kind, put, read, slot_at, wait_code, Pair, FIRST_AT, SECOND_AT, WAIT_AT};
 use crate::frames::{damage, Dice, Frame, Sender, LIMITS, OWN};
 use crate::ours::{Ours, STORE_BYTES};
 use plain::receiver::{Limits, Receiver, Session, Wait};
@@ -103,7 +103,8 @@ pub fn compare<const CHECKED: bool>(calls: usize, seed: u64, limits: Limits) -> 
             continue;
         }
         let sender = &mut senders[dice.roll(8)];
-        let next = pair.plain.slots().iter().flatten().find(|s| sender.has(s)).map(|s| s.next);
+        let session = pair.plain.slots().iter().flatten().find(|s| sender.has(s));
+        let next = session.map(Session::first_missing);
         let mut frame = match next {
             None => {
                 *sender = sender.with_small_grants(&mut dice);
@@ -124,11 +125,13 @@ pub fn compare<const CHECKED: bool>(calls: usize, seed: u64, limits: Limits) -> 
     (seen, pair.seen)
 }
 
-/// Whether both sides refuse a record, by a frame and by a reading at which nothing ends.
-fn are_refused(ours: &mut Ours, plain: &mut Receiver<true>, frame: &Frame, what: &str) -> bool {
+/// Whether both sides refuse a record, by a frame, by a question and by a reading at which nothing ends.
+pub fn are_refused(ours: &mut Ours, plain: &mut Receiver<true>, frame: &Frame, what: &str) -> bool {
     let number = ours.frame(frame.id, frame.bytes());
     let answer = super::answer_bytes(&plain.frame(frame.id, frame.bytes(), &mut vec![0; STORE_BYTES]));
     assert_eq!(ours.answer, answer, "answer, {what}");
+    let told = ask(ours, plain, Sender::nth(0).key(), format_args!("{what}"));
+    assert_eq!(told == 256 * 23, number == 23, "missing, {what}");
     let (at_reading, ended) = read(ours, plain, 7, what);
     assert_eq!((at_reading, ended), (if number == 23 { 23 } else { 0 }, 0), "reading, {what}");
     number == 23

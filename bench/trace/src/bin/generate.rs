@@ -4,8 +4,10 @@
 //!
 //! Of a hundred records about 40 are Multi-PG frames, 48 belong to eight transfers (RTS and BAM, interleaved), 10 are readings and
 //! the rest is noise: frames for others, odd lengths, controls that are not a receiver's, a ninth announcement. One Multi-PG frame
-//! in 50 and one transfer frame in 200 is damaged.
+//! in 50 and one transfer frame in 200 is damaged. Of the transfers by RTS some lose segments, a few of them many; these come again
+//! after the end of message status, as the receiver asks for them.
 
+use std::collections::VecDeque;
 use std::io::{self, BufWriter, Write};
 
 const OWN: u32 = 33;
@@ -38,8 +40,13 @@ struct Transfer {
     is_bam: bool,
     total: u32,
     pgn: u32,
-    /// 0 before the announcement, then the next segment
-    next: u32,
+    is_announced: bool,
+    /// the segments that go out before the next end of message status
+    due: VecDeque<u32>,
+    /// those that have got lost, in order
+    lost: VecDeque<u32>,
+    /// of how many segments one gets lost; none if 0
+    loses_one_in: u64,
 }
 
 struct Out<W: Write> {
@@ -142,15 +149,49 @@ impl Transfer {
         let most = if dice.one_in(3) { 4096 } else { 1500 };
         self.total = 1 + dice.below(most);
         self.pgn = pgn(dice);
-        self.next = 0;
+        self.is_announced = false;
+        self.due.clear();
+        self.lost.clear();
+        self.loses_one_in = match dice.below(16) {
+            _ if self.is_bam => 0,
+            0 => 4,
+            1..=4 => 30,
+            _ => 0,
+        };
+    }
+
+    /// The next segment that does not get lost.
+    fn next_segment(&mut self, dice: &mut Dice) -> Option<u32> {
+        while let Some(n) = self.due.pop_front() {
+            if self.loses_one_in == 0 || !dice.one_in(self.loses_one_in) {
+                return Some(n);
+            }
+            self.lost.push_back(n);
+            self.lost.make_contiguous().sort_unstable();
+        }
+        None
+    }
+
+    /// What the receiver asks for: the first run that is missing.
+    fn first_run(&mut self) -> VecDeque<u32> {
+        let mut run = VecDeque::new();
+        while let Some(&n) = self.lost.front() {
+            if run.len() == 16 || run.back().is_some_and(|&last| n != last + 1) {
+                break;
+            }
+            run.push_back(n);
+            self.lost.pop_front();
+        }
+        run
     }
 
     fn step(&mut self, dice: &mut Dice) -> (u32, Vec<u8>) {
         let da = if self.is_bam { 255 } else { OWN };
         let top = self.session << 4;
         let segments = self.total.div_ceil(60);
-        if self.next == 0 {
-            self.next = 1;
+        if !self.is_announced {
+            self.is_announced = true;
+            self.due = (1..=segments).collect();
             let first = top | if self.is_bam { 4 } else { 0 };
             let max = if dice.one_in(4) {
                 1 + dice.below(20) as u8
@@ -162,20 +203,22 @@ impl Transfer {
                 control(first, self.total, max, self.pgn),
             );
         }
-        if self.next > segments {
+        let Some(n) = self.next_segment(dice) else {
             let bytes = control(top | 2, self.total, 255, self.pgn);
             let id = identifier(77, da, self.sa);
-            self.restart(dice);
+            self.due = self.first_run();
+            if self.due.is_empty() {
+                self.restart(dice);
+            }
             return (id, bytes);
-        }
-        let due = (self.total - 60 * (self.next - 1)).min(60);
+        };
+        let due = (self.total - 60 * (n - 1)).min(60);
         let mut bytes = vec![top];
-        bytes.extend(&self.next.to_le_bytes()[..3]);
+        bytes.extend(&n.to_le_bytes()[..3]);
         for _ in 0..due {
             bytes.push(dice.byte());
         }
         pad(&mut bytes, 0xff);
-        self.next += 1;
         (identifier(78, da, self.sa), bytes)
     }
 
@@ -183,11 +226,13 @@ impl Transfer {
     fn damaged(&mut self, dice: &mut Dice) -> (u32, Vec<u8>) {
         let (id, mut bytes) = self.clone().step(dice);
         match dice.below(5) {
-            // a segment again, or one left out: the session may end, so begin anew
+            // a segment again, or one left out: that ends a broadcast, so begin anew
             0 => bytes[1] = bytes[1].wrapping_sub(1),
             1 => {
                 bytes[1] = bytes[1].wrapping_add(1);
-                self.restart(dice);
+                if self.is_bam {
+                    self.restart(dice);
+                }
             }
             2 => bytes[0] |= 1 << dice.below(4),
             3 => bytes.truncate(8),
@@ -239,7 +284,10 @@ fn main() -> io::Result<()> {
         is_bam: false,
         total: 1,
         pgn: 0,
-        next: 0,
+        is_announced: false,
+        due: VecDeque::new(),
+        lost: VecDeque::new(),
+        loses_one_in: 0,
     };
     let mut transfers = vec![blank; 8];
     for (i, t) in transfers.iter_mut().enumerate() {

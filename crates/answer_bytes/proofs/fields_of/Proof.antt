@@ -1,17 +1,16 @@
-use Prim.Native.Nat.{ℕ}
 use mathlib.Core.Path.{sym, ap, _∙_}
-use Rattle.answer_bytes.specs.Answers.{noKey, keyed, fieldsOf}
+use Rattle.answer_bytes.specs.Answers.{keyed, fieldsOf}
 use borrow.Author.Needs.{needs}
 use Rattle.answer_bytes.proofs.fields_of.Statement.{statement}
 use Rattle.answer_bytes.proofs.fields_of.Tie as tie
 use Rattle.answer_bytes.proofs.fields_of.Reads as reads
 use Rattle.answer_bytes.proofs.fields_of.Lts as lts
-use Rattle.frame.proofs.refusal.number.Reads as number-reads
-use Rattle.answer_bytes.proofs.ended_fields.Reads as ended-fields-reads
+use Rattle.answer_bytes.proofs.session_ended.Reads as session-ended-reads
 use Rattle.answer_bytes.proofs.grant_fields.Reads as grant-fields-reads
 use Rattle.answer_bytes.proofs.keyed_fields.Reads as keyed-fields-reads
 use Rattle.answer_bytes.proofs.message_fields.Reads as message-fields-reads
 use Rattle.answer_bytes.proofs.no_key.Reads as no-key-reads
+use Rattle.answer_bytes.proofs.refused_fields.Reads as refused-fields-reads
 use Rattle.answer_bytes.proofs.rejection_fields.Reads as rejection-fields-reads
 use Rattle.answer_bytes.proofs.taken_fields.Reads as taken-fields-reads
 
@@ -57,8 +56,8 @@ keyed-fields-requires-3 c κs = search needs
 enum-known-a-6 : tie.Need-enum-known-a-6
 enum-known-a-6 c = search needs
 
-ended-fields-requires : tie.Need-ended-fields-requires
-ended-fields-requires c κs = search needs
+session-ended-requires : tie.Need-session-ended-requires
+session-ended-requires c κs = search needs
 
 enum-known-a-7 : tie.Need-enum-known-a-7
 enum-known-a-7 c = search needs
@@ -69,14 +68,8 @@ rejection-fields-requires c κs = search needs
 enum-known-a-8 : tie.Need-enum-known-a-8
 enum-known-a-8 c = search needs
 
-number-requires : tie.Need-number-requires
-number-requires c κs = search needs
-
-no-key-requires-2 : tie.Need-no-key-requires-2
-no-key-requires-2 c κs = search needs
-
-keyed-fields-requires-4 : tie.Need-keyed-fields-requires-4
-keyed-fields-requires-4 c κs = search needs
+refused-fields-requires : tie.Need-refused-fields-requires
+refused-fields-requires c κs = search needs
 
 returns : tie.Need-returns
 returns c = c .keyed-fields .ensures ∙ ap (keyed 1 0) (c .before .no-key .ensures) ∙ sym (ap fieldsOf (c .before .before .enum-told .given .1))
@@ -97,18 +90,13 @@ returns-6 : tie.Need-returns-6
 returns-6 c = c .keyed-fields3 .ensures ∙ sym (ap fieldsOf (c .before .before .a5 .given .1))
 
 returns-7 : tie.Need-returns-7
-returns-7 c = c .ended-fields .ensures ∙ sym (ap fieldsOf (c .before .before .a6 .given .1))
+returns-7 c = c .session-ended .ensures ∙ sym (ap fieldsOf (c .before .before .a6 .given .1))
 
 returns-8 : tie.Need-returns-8
 returns-8 c = c .rejection-fields .ensures ∙ sym (ap fieldsOf (c .before .before .a7 .given .1))
 
 returns-9 : tie.Need-returns-9
-returns-9 c =
-    let told = c .before .before in
-    c .keyed-fields4 .ensures
-    ∙ ap (keyed 9 (told .number .result)) (c .before .no-key2 .ensures)
-    ∙ ap (λ (n : ℕ). keyed 9 n noKey) (told .number .ensures)
-    ∙ sym (ap fieldsOf (told .before .before .a8 .given .1))
+returns-9 c = c .refused-fields .ensures ∙ sym (ap fieldsOf (c .before .before .a8 .given .1))
 
 pub fields-of-spec : {M : Type 1} → statement M
 fields-of-spec =
@@ -128,13 +116,11 @@ fields-of-spec =
     enum-known-a-5
     keyed-fields-requires-3
     enum-known-a-6
-    ended-fields-requires
+    session-ended-requires
     enum-known-a-7
     rejection-fields-requires
     enum-known-a-8
-    number-requires
-    no-key-requires-2
-    keyed-fields-requires-4
+    refused-fields-requires
     returns
     returns-2
     returns-3

@@ -34,6 +34,7 @@ mod header {
             out: *mut u8,
             out_bytes: usize,
         ) -> usize;
+        pub fn dwb_missing(record: *const u8, record_bytes: usize, sa: u8, da: u8, session: u8) -> usize;
         pub fn dwb_sender_open(sender: *mut u8, sender_bytes: usize, own: u8, limit: u32, reading: u32) -> u8;
         pub fn dwb_announce(
             sender: *mut u8,
@@ -112,7 +113,7 @@ mod header {
 }
 
 /// DWB_VERSION of the header that these declarations are of.
-pub const VERSION: u32 = 4;
+pub const VERSION: u32 = 5;
 
 pub fn version() -> u32 {
     unsafe { header::dwb_version() }
@@ -160,6 +161,10 @@ pub fn message(answer: &[u8], store: &[u8], out: &mut [u8]) -> usize {
     unsafe {
         header::dwb_message(answer.as_ptr(), answer.len(), store.as_ptr(), store.len(), out.as_mut_ptr(), out.len())
     }
+}
+
+pub fn missing(record: &[u8], sa: u8, da: u8, session: u8) -> usize {
+    unsafe { header::dwb_missing(record.as_ptr(), record.len(), sa, da, session) }
 }
 
 pub fn sender_open(sender: &mut [u8], own: u8, limit: u32, reading: u32) -> u8 {

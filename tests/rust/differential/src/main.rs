@@ -7,6 +7,7 @@ mod network;
 mod pair;
 mod random;
 mod repeats;
+mod requests;
 mod samples;
 mod sender;
 mod traffic;
@@ -105,7 +106,7 @@ fn run_kind(kind: &traffic::Kind, number: u64, faults: &mut Faults) -> Tally {
     tally
 }
 
-/// The network of sender and receiver over all seeds, without loss and with losses.
+/// The network of sender and receiver over all seeds, without loss, with any losses, and with segments lost alone.
 fn run_network(whole: &mut Tally, faults: &mut Faults) {
     let mut counts = Counts::default();
     let before = faults.0.len();
@@ -113,7 +114,8 @@ fn run_network(whole: &mut Tally, faults: &mut Faults) {
         let mut random = Random::new(seed << 8 | 0xFF);
         let mut ends = [Pair::new(&mut random), Pair::new(&mut random)];
         let verdict = network::without_loss(&mut ends, &mut random, &mut counts)
-            .and_then(|()| network::with_losses(&mut ends, &mut random, &mut counts));
+            .and_then(|()| network::with_losses(&mut ends, &mut random, &mut counts))
+            .and_then(|()| network::with_segments_lost(&mut ends, &mut random, &mut counts));
         let calls = ends.each_ref().map(|end| end.tally.calls);
         if let Err(difference) = verdict {
             faults.add(format!("network, seed {seed}, calls {calls:?}: {}", difference.0));
@@ -172,6 +174,7 @@ fn print_whole(whole: &Tally) {
     let forms: Vec<String> = whole.waits.iter().enumerate().map(|(i, n)| format!("{}: {n}", waits::name(i))).collect();
     println!("two limits: {}", forms.join("; "));
     println!("{}", trailers::line(&whole.trailers));
+    println!("{}", requests::line(&whole.requests));
 }
 
 /// Every refusal and every answer has to have come up.

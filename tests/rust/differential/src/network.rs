@@ -1,8 +1,9 @@
 //! A sender and a receiver at another address, over two queues that keep order. Both are the archive's, and each is a pair: the rules go
 //! along with it, compared at every call. Without loss every message arrives, equal and once, and nothing is refused. With losses
 //! nothing is handed over that was not announced under its key, and no announcement twice; there a key is used again only when the
-//! queues are empty and what it stood for has ended at both ends. Either end may be a node, which takes its frames by the node's call.
-//! What a reading ends is what the network reckons by itself, at the receiver by the limit of each session's wait.
+//! queues are empty and what it stood for has ended at both ends. Where segments alone are lost, every transfer comes to rest by itself,
+//! and arrives unless requests were spent (02 E6). Either end may be a node, which takes its frames by the node's call. What a reading
+//! ends is what the network reckons by itself, at the receiver by the limit of each session's wait; so is what a request asks for.
 
 mod announced;
 mod counts;
@@ -13,14 +14,14 @@ mod third;
 use crate::limits;
 use crate::pair::{expect, Difference, Given, Pair, Verdict};
 use crate::random::Random;
-use crate::sender::{good_pgn, Frame};
-use announced::{length, Announced, EDGES};
+use crate::sender::{good_pgn, Frame, DATA};
+use announced::{length, Announced};
 pub use counts::Counts;
 use counts::Met;
 use end::{slack, start, End};
 use rules::calls::Code;
 use rules::frame::{number24, GLOBAL};
-use rules::receiver::segments_of;
+use rules::receiver::Key;
 use rules::sending::TRANSFERS;
 use sessions::{Line, Sessions};
 use std::collections::VecDeque;
@@ -32,8 +33,20 @@ pub type Ends = [Pair; 2];
 /// Announcements for one seed.
 const WITHOUT_LOSS: u64 = 2_700;
 const WITH_LOSSES: u64 = 4_000;
+const WITH_SEGMENTS_LOST: u64 = 3_000;
 /// Turns without an announcement after which the network stands still.
 const PATIENCE: u64 = 1_000_000;
+
+/// What the queues lose: one frame in so many.
+#[derive(Clone, Copy, PartialEq, Eq)]
+enum Loss {
+    None,
+    /// Any frame, either way, and clocks may run on through a silence.
+    Any(usize),
+    /// Segments alone, and right behind a lost one all but one in so many. Until the receiver's first request it is none for which the
+    /// receiver waits before its next CTS: the last one granted, but for the last of the message.
+    Segments(usize, usize),
+}
 
 #[derive(Clone, Copy)]
 enum Turn {
@@ -68,9 +81,8 @@ struct Network<'a> {
     announced: Vec<Announced>,
     /// Open at the receiver.
     sessions: Sessions,
-    /// One frame in so many is lost; 0 for none.
-    loss: usize,
-    /// Where frames are lost: of the sender's and the receiver's readings one in so many may be a silence.
+    loss: Loss,
+    /// Where any frames are lost: of the sender's and the receiver's readings one in so many may be a silence.
     silence: (usize, usize),
 }
 
@@ -89,8 +101,22 @@ pub fn with_losses(ends: &mut Ends, random: &mut Random, counts: &mut Counts) ->
     while announced < WITH_LOSSES {
         let mut network = Network::new(ends, random, counts)?;
         for _ in 0..5 {
-            network.loss = network.random.pick(&[3, 20, 100, 500]);
+            network.loss = Loss::Any(network.random.pick(&[3, 20, 100, 500]));
             network.silence = (network.random.pick(&[8, 50, 400]), network.random.pick(&[50, 400, 4_000]));
+            let wanted = network.random.between(1, 25);
+            network.run(wanted)?;
+            announced += wanted as u64;
+        }
+    }
+    Ok(())
+}
+
+pub fn with_segments_lost(ends: &mut Ends, random: &mut Random, counts: &mut Counts) -> Verdict<()> {
+    let mut announced = 0;
+    while announced < WITH_SEGMENTS_LOST {
+        let mut network = Network::new(ends, random, counts)?;
+        for _ in 0..5 {
+            network.loss = Loss::Segments(network.random.pick(&[2, 3, 6, 20, 100]), network.random.pick(&[1, 2, 8]));
             let wanted = network.random.between(1, 25);
             network.run(wanted)?;
             announced += wanted as u64;
@@ -116,7 +142,7 @@ impl<'a> Network<'a> {
         let third = Third::new(random, third, sender.own);
         let (to_receiver, to_sender) = (VecDeque::new(), VecDeque::new());
         let (announced, sessions) = (Vec::new(), Sessions::new(receiver.limits));
-        let (loss, silence) = (0, (0, 0));
+        let (loss, silence) = (Loss::None, (0, 0));
         Ok(Network {
             sender,
             receiver,
@@ -155,20 +181,24 @@ impl<'a> Network<'a> {
             expect(idle < PATIENCE, || format!("nothing comes to an end: {:?}", self.sender.pair.sender_state()))?;
         }
         self.drain()?;
-        if self.loss > 0 {
+        if self.loses_any() {
             self.silence()?;
         }
         self.finish()
+    }
+
+    fn loses_any(&self) -> bool {
+        matches!(self.loss, Loss::Any(_))
     }
 
     fn announce(&mut self) -> Verdict<()> {
         let destination = if self.random.once_in(3) { GLOBAL } else { self.receiver.own };
         let session = self.random.below(16) as u8;
         let is_used = |a: &Announced| (a.destination, a.session) == (destination, session);
-        let is_free = if self.loss > 0 {
-            !self.announced.iter().any(is_used)
-        } else {
+        let is_free = if self.loss == Loss::None {
             !self.announced.iter().any(|a| a.is_open && is_used(a))
+        } else {
+            !self.announced.iter().any(is_used)
         };
         let open = self.open().len();
         if !is_free || open == TRANSFERS {
@@ -219,12 +249,12 @@ impl<'a> Network<'a> {
     fn ask(&mut self, i: usize) -> Verdict<bool> {
         let a = &mut self.announced[i];
         let given = answered(self.sender.pair.next_frame(a.destination, a.session, &a.message)?)?;
-        let all_out = a.out == segments_of(a.message.len() as u32) && a.due.is_empty();
-        let by_bam = a.destination == GLOBAL;
+        let all_out = a.last_out && a.due.is_empty();
+        let by_bam = a.is_broadcast();
         let has_frame = given.0[19] == 1;
         let is_right = if given.is(Code::SegmentSent) {
-            a.out = given.word(15);
-            has_frame && a.due.next() == Some(a.out)
+            a.last_out |= given.word(15) == a.segments();
+            has_frame && a.due.next() == Some(given.word(15))
         } else if given.is(Code::StatusSent) {
             // A broadcast's ends it.
             (a.is_open, a.ended_well) = (!by_bam, by_bam);
@@ -242,10 +272,36 @@ impl<'a> Network<'a> {
         Ok(has_frame)
     }
 
-    fn is_lost(&mut self, met: Met) -> bool {
-        let is_lost = self.loss > 0 && self.random.once_in(self.loss);
+    /// Whether this frame is lost on its way to the receiver.
+    fn is_lost_to_receiver(&mut self, frame: &Frame) -> bool {
+        let a = find(&mut self.announced, frame);
+        let (is_lost, met) = match (self.loss, a) {
+            (Loss::Any(one_in), _) => (self.random.once_in(one_in), Met::DroppedToReceiver),
+            (Loss::Segments(one_in, behind), Some(a)) if is_segment(frame) => {
+                let n = number24(&frame.bytes[1..4]);
+                let is_behind = n == a.last_lost + 1 && !self.random.once_in(behind);
+                let is_lost = a.can_lose(n) && (is_behind || self.random.once_in(one_in));
+                if is_lost {
+                    (a.lost, a.last_lost) = (a.lost + 1, n);
+                }
+                let is_last = n == a.segments() && a.requests == 0;
+                (is_lost, if is_last { Met::DroppedLast } else { Met::DroppedSegment })
+            }
+            _ => (false, Met::DroppedToReceiver),
+        };
         if is_lost {
             self.counts.add(met);
+        }
+        is_lost
+    }
+
+    fn is_lost_to_sender(&mut self) -> bool {
+        let Loss::Any(one_in) = self.loss else {
+            return false;
+        };
+        let is_lost = self.random.once_in(one_in);
+        if is_lost {
+            self.counts.add(Met::DroppedToSender);
         }
         is_lost
     }
@@ -254,29 +310,81 @@ impl<'a> Network<'a> {
         let Some(frame) = self.to_receiver.pop_front() else {
             return Ok(());
         };
-        if self.is_lost(Met::DroppedToReceiver) {
+        if self.is_lost_to_receiver(&frame) {
             return Ok(());
         }
         let given = self.taken_by_receiver(&frame)?;
         let line: Line = ((frame.id >> 8) as u8, frame.bytes[0] >> 4);
         self.sessions.answered(line, &given, self.receiver.clock);
-        let number = given.number();
-        match number {
-            0 => {}
-            15 => self.counts.add(Met::EightOpen),
-            16 => self.counts.add(Met::TooLate),
-            19 => self.counts.add(Met::OutOfSequence),
-            21 => self.counts.add(Met::EndTooEarly),
-            _ => return Err(Difference(format!("{frame:02X?} was refused with {number}, which no loss can bring"))),
-        }
-        expect(number == 0 || self.loss > 0, || format!("{frame:02X?} was refused with {number}"))?;
+        self.can_refuse(&frame, &given)?;
         if given.is(Code::HandedOver) {
             self.hand_over(&given)?;
-        }
-        if given.is(Code::Aborted) {
+        } else if given.is(Code::Aborted) {
             self.counts.add(Met::AbortedByOriginator);
+        } else if given.is(Code::Grant) || given.is(Code::Taken) {
+            self.goes_on(&frame, &given)?;
         }
         self.reply(&given);
+        Ok(())
+    }
+
+    /// What was refused, a loss explains.
+    fn can_refuse(&mut self, frame: &Frame, given: &Given) -> Verdict<()> {
+        let (number, loss) = (given.number(), self.loss);
+        let is_spent = number == 21 && given.0[6] == 1;
+        let Some(a) = find(&mut self.announced, frame) else {
+            return Err(Difference(format!("{frame:02X?} was never announced")));
+        };
+        if given.is(Code::Ended) {
+            a.ended_by = Some(number);
+        }
+        let is_right = match (number, loss) {
+            (0, _) => true,
+            (_, Loss::None) => false,
+            (15 | 16, Loss::Any(_)) => true,
+            // What follows the segment that ended a broadcast.
+            (16, Loss::Segments(..)) => a.ended_by == Some(19),
+            (19, _) => a.is_broadcast(),
+            (21, _) if is_spent => a.requests == 5,
+            (21, _) => a.is_broadcast(),
+            _ => false,
+        };
+        expect(is_right, || format!("{frame:02X?} was refused with {number}, which no loss can bring"))?;
+        match number {
+            15 => self.counts.add(Met::EightOpen),
+            16 if self.loses_any() => self.counts.add(Met::TooLate),
+            16 => self.counts.add(Met::TooLateForBroadcast),
+            19 => self.counts.add(Met::OutOfSequence),
+            21 if !is_spent => self.counts.add(Met::EndTooEarly),
+            _ => {}
+        }
+        Ok(())
+    }
+
+    /// The receiver's session goes on: what is in, what was granted and what is asked for, by the network's own account.
+    fn goes_on(&mut self, frame: &Frame, given: &Given) -> Verdict<()> {
+        let Some(a) = find(&mut self.announced, frame) else {
+            return Ok(());
+        };
+        if is_segment(frame) {
+            a.takes(number24(&frame.bytes[1..4]));
+        }
+        if !given.is(Code::Grant) {
+            return Ok(());
+        }
+        let (next, count) = (given.word(15), u32::from(given.0[6]));
+        a.granted = next + count - 1;
+        let is_request = frame.bytes[0] & 0xF == 2 && !is_segment(frame);
+        if is_request {
+            a.requests += 1;
+            let due = a.first_run();
+            let told = || format!("asked for {count} from {next} on, due was {due:?}");
+            expect((next, count) == due, told)?;
+            let (missing, key) = (a.missing(), Key { sa: self.sender.own, da: a.destination, session: a.session });
+            let told = self.receiver.pair.missing(key)?;
+            expect(told == missing, || format!("{told} are told to be missing, due was {missing}"))?;
+            self.counts.add(if self.loses_any() { Met::Asked } else { Met::AskedForSegments });
+        }
         Ok(())
     }
 
@@ -321,9 +429,10 @@ impl<'a> Network<'a> {
         let Some(frame) = self.to_sender.pop_front() else {
             return Ok(());
         };
-        if self.is_lost(Met::DroppedToSender) {
+        if self.is_lost_to_sender() {
             return Ok(());
         }
+        let loss = self.loss;
         let given = self.taken_by_sender(&frame)?;
         let key = (frame.id as u8, frame.bytes[0] >> 4);
         let a = self.announced.iter_mut().find(|a| a.is_open && (a.destination, a.session) == key);
@@ -341,21 +450,21 @@ impl<'a> Network<'a> {
             Some(a) if given.is(Code::TransferAborted) => {
                 self.counts.add(Met::AbortedByResponder);
                 a.is_open = false;
-                self.loss > 0
+                loss != Loss::None
             }
             Some(_) => false,
             None => {
                 self.counts.add(Met::TooLateToSender);
-                self.loss > 0 && given.number() == 16
+                matches!(loss, Loss::Any(_)) && given.number() == 16
             }
         };
         expect(is_right, || format!("{frame:02X?} was answered by {:02X?}", given.0))?;
         expect(given.sent().is_none(), || format!("{frame:02X?} was answered: {:02X?}", given.0))
     }
 
-    /// How far a clock goes on. Without loss nothing may end; with losses just the first silence may have run out, or any.
+    /// How far a clock goes on. Where any frames are lost just the first silence may have run out, or any; else nothing may end.
     fn passed(&mut self, last: u32, limit: u32, slack: Option<u32>, silence: usize) -> u32 {
-        if self.loss > 0 && self.random.once_in(silence) {
+        if self.loses_any() && self.random.once_in(silence) {
             return match slack {
                 Some(slack) if self.random.once_in(2) => slack + 1,
                 _ => self.random.below(2 * limit as usize) as u32,
@@ -409,7 +518,7 @@ impl<'a> Network<'a> {
             let abort = ending.sent().map(|(id, bytes)| Frame { id, bytes: bytes.to_vec() });
             self.to_receiver.extend(abort);
         }
-        expect(ended.is_empty() || self.loss > 0, || "a transfer ended by silence".into())
+        expect(ended.is_empty() || self.loses_any(), || "a transfer ended by silence".into())
     }
 
     fn receivers_clock(&mut self) -> Verdict<()> {
@@ -435,7 +544,7 @@ impl<'a> Network<'a> {
         for silence in self.sessions.silences() {
             self.counts.outlived(silence, self.receiver.limits, reading);
         }
-        expect(ended.is_empty() || self.loss > 0, || "a session ended by silence".into())
+        expect(ended.is_empty() || self.loses_any(), || "a session ended by silence".into())
     }
 
     /// This is the ending due to the session of this line; a broadcast's sends nothing.
@@ -487,23 +596,25 @@ impl<'a> Network<'a> {
         expect(sessions == 0 && transfers == 0, || format!("{sessions} sessions, {transfers} transfers stay open"))?;
         expect(self.sessions.is_empty(), || "a session is not open that should be".into())?;
         for a in self.announced.drain(..) {
-            let (by_bam, length) = (a.destination == GLOBAL, a.message.len());
-            if self.loss > 0 {
-                self.counts.add(if a.arrived { Met::ArrivedInSpite } else { Met::Lost });
-                if a.arrived && !a.ended_well {
-                    self.counts.add(Met::NotAcknowledged);
-                }
-                continue;
-            }
-            expect(a.arrived && a.ended_well, || format!("a message of {length} bytes did not arrive"))?;
-            self.counts.add(Met::Arrived);
-            if by_bam {
-                self.counts.add(Met::ArrivedByBam);
-            }
-            if EDGES.contains(&length) {
-                self.counts.add(Met::ArrivedAtAnEdge);
+            match self.loss {
+                Loss::None => self.counts.arrived(&a)?,
+                Loss::Any(_) => self.counts.in_spite_of_losses(&a),
+                Loss::Segments(..) => self.counts.with_segments_lost(&a)?,
             }
         }
         Ok(())
     }
+}
+
+fn is_segment(frame: &Frame) -> bool {
+    (frame.id >> 16) as u8 == DATA
+}
+
+/// The announcement that a frame to the receiver belongs to: the first of its key that is not over there, else the last.
+fn find<'a>(announced: &'a mut [Announced], frame: &Frame) -> Option<&'a mut Announced> {
+    let line: Line = ((frame.id >> 8) as u8, frame.bytes[0] >> 4);
+    let is_it = |a: &Announced| (a.destination, a.session) == line;
+    let is_under_way = |a: &Announced| is_it(a) && !a.arrived && a.ended_by.is_none();
+    let place = announced.iter().position(is_under_way).or_else(|| announced.iter().rposition(is_it))?;
+    announced.get_mut(place)
 }

@@ -14,19 +14,20 @@ mod sending;
 
 use crate::groups::Lists;
 use crate::random::Random;
-use crate::repeats::{self, Form, Watch};
+use crate::repeats;
+use crate::requests;
 use crate::trailers;
 use crate::waits;
 use rules::calls::{self, Code, ANSWERS_BYTES, ANSWER_BYTES, GROUPS_WORDS, GROUP_WORDS, RECORD_BYTES};
 use rules::groups::Group;
-use rules::receiver::{Limits, Receiver, STORE_BYTES};
+use rules::receiver::{Key, Limits, Receiver, STORE_BYTES};
 use rules::sender_calls::{self, FRAME_BYTES, SENDER_BYTES, TRANSFER_ANSWERS_BYTES};
 use std::fmt::{Debug, Display};
 
 /// Bytes before and behind each lent buffer, which no call may touch.
 const GUARD: usize = 64;
 const LARGEST: Sizes = Sizes {
-    record: 300,
+    record: 420,
     store: 36_864,
     answer: 80,
     answers: 400,
@@ -99,6 +100,7 @@ struct Calls {
     frame: fn(&mut [u8], u32, &[u8], &mut [u8], &mut [u8]) -> u8,
     reading: fn(&mut [u8], u32, &[u8], &mut [u8]) -> u8,
     message: fn(&[u8], &[u8], &mut [u8]) -> usize,
+    missing: fn(&[u8], u8, u8, u8) -> usize,
     groups: fn(&[u8], &mut [u32]) -> usize,
     pack: fn(&[u8], &[u8], &[u32], &[u8], &[u8], &[u8], &[u8], &mut [u8]) -> usize,
     sender_open: fn(&mut [u8], u8, u32, u32) -> u8,
@@ -115,6 +117,7 @@ const RULES: Calls = Calls {
     frame: calls::frame,
     reading: calls::reading,
     message: calls::message,
+    missing: calls::missing,
     groups: calls::groups,
     pack: calls::pack,
     sender_open: sender_calls::sender_open,
@@ -131,6 +134,7 @@ const ARCHIVE: Calls = Calls {
     frame: boundary::frame,
     reading: boundary::reading,
     message: boundary::message,
+    missing: boundary::missing,
     groups: boundary::groups,
     pack: boundary::pack,
     sender_open: boundary::sender_open,
@@ -197,11 +201,12 @@ pub struct Tally {
     pub sent: u64,
     pub messages: u64,
     pub groups: u64,
-    /// By `Form`.
+    /// By form of `repeats`.
     pub repeats: [u64; repeats::NAMES.len()],
     /// By form of `waits`.
     pub waits: [u64; waits::FORMS],
     pub trailers: trailers::Counts,
+    pub requests: requests::Counts,
 }
 
 impl Tally {
@@ -217,6 +222,9 @@ impl Tally {
         for (&form, count) in &other.trailers {
             *self.trailers.entry(form).or_default() += count;
         }
+        for (&form, count) in &other.requests {
+            *self.requests.entry(form).or_default() += count;
+        }
     }
 }
 
@@ -228,6 +236,13 @@ pub struct Pair {
     pub tally: Tally,
     watch: Watch,
     noise: u8,
+}
+
+/// What is seen of the sessions beside their record.
+#[derive(Default)]
+struct Watch {
+    repeats: repeats::Watch,
+    requests: requests::Watch,
 }
 
 /// The bytes of an answer, as the archive wrote them.
@@ -335,9 +350,35 @@ impl Pair {
         self.tally.sent += u64::from(given.0[19]);
     }
 
-    fn count_forms(&mut self, forms: Vec<Form>) {
-        for form in forms {
+    /// What a frame brought on this record.
+    fn count_frame(&mut self, record: &[u8], id: u32, bytes: &[u8], given: &Given) {
+        let Some(before) = calls::read_record(record) else {
+            return;
+        };
+        for form in self.watch.repeats.frame(&before, id, bytes, given) {
             self.tally.repeats[form as usize] += 1;
+        }
+        let forms = self.watch.requests.frame(&before, id, bytes, given);
+        self.count_requests(forms);
+    }
+
+    /// What a reading brought on this record.
+    fn count_reading(&mut self, record: &[u8], reading: u32, given: &[Given]) {
+        let Some(before) = calls::read_record(record) else {
+            return;
+        };
+        for form in self.watch.repeats.reading(&before, reading, given) {
+            self.tally.repeats[form as usize] += 1;
+        }
+        for form in waits::forms(&before, reading, given) {
+            self.tally.waits[form] += 1;
+        }
+        self.count_requests(self.watch.requests.reading(&before, reading, given));
+    }
+
+    pub fn count_requests(&mut self, forms: Vec<requests::Form>) {
+        for form in forms {
+            *self.tally.requests.entry(form).or_default() += 1;
         }
     }
 
@@ -381,10 +422,7 @@ impl Pair {
             return Ok(None);
         };
         self.count(&given);
-        if let Some(before) = calls::read_record(&record) {
-            let forms = self.watch.frame(&before, id, bytes, &given);
-            self.count_forms(forms);
-        }
+        self.count_frame(&record, id, bytes, &given);
         Ok(Some(given))
     }
 
@@ -432,13 +470,22 @@ impl Pair {
             self.tally.numbers[usize::from(ending.number())] += 1;
             self.count(ending);
         }
-        if let (0, Some(before)) = (number, calls::read_record(&record)) {
-            self.count_forms(self.watch.reading(&before, reading, &given));
-            for form in waits::forms(&before, reading, &given) {
-                self.tally.waits[form] += 1;
-            }
+        if number == 0 {
+            self.count_reading(&record, reading, &given);
         }
         Ok((number, given))
+    }
+
+    /// How many segments of a key's session are not in, or 256 times the number of the refusal.
+    pub fn missing(&mut self, key: Key) -> Verdict<usize> {
+        let (size, Key { sa, da, session }) = (self.sizes.record, key);
+        let record = self.record().to_vec();
+        let name = || format!("missing of {sa} {da} {session} in {size} bytes of record {}", hex(&record));
+        let missing = self.both(name, |side| (side.calls.missing)(side.record.lent(size), sa, da, session))?;
+        same!(self, name, record);
+        self.tally.numbers[missing >> 8] += 1;
+        self.count_requests(requests::of_missing(self.state().as_ref(), key, missing));
+        Ok(missing)
     }
 
     fn message_within(&mut self, answer: &[u8], room: usize) -> Verdict<usize> {

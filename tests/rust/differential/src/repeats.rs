@@ -2,6 +2,7 @@
 
 use crate::pair::Given;
 use crate::sender::CONTROL;
+use rules::calls::Code;
 use rules::frame::number24;
 use rules::receiver::{Key, Receiver, Session, SLOTS};
 
@@ -19,7 +20,7 @@ pub enum Form {
     Spared,
     SparedByWait,
     EndedByWait,
-    EndedAtOnce,
+    AskedForAll,
     HandedOver,
     OtherPgn,
     Broadcast,
@@ -41,7 +42,7 @@ pub const NAMES: [&str; 19] = [
     "reading outlived by the new mark only",
     "reading outlived by the restart's wait only",
     "22 by the restart's wait only",
-    "21 at once after a restart with all in",
+    "request for all after a restart with all in",
     "hand-over after a restart",
     "14 by another PGN",
     "14 by a BAM",
@@ -82,7 +83,7 @@ impl Watch {
             (0, 13) => vec![Form::Assurance],
             (0, 14) => vec![Form::OtherPgn],
             (4, 14) => vec![Form::Broadcast],
-            (2, number) => self.end(before, slot, number),
+            (2, _) => self.end(before, slot, given),
             _ => vec![],
         }
     }
@@ -93,11 +94,11 @@ impl Watch {
         };
         self.0[slot] = Some(session);
         let total = number24(&bytes[1..4]);
-        let is_whole = session.next > session.segments;
+        let (has_none, has_all) = (session.missing == session.segments, session.missing == 0);
         let forms = [
-            (Form::NothingTaken, session.next == 1),
-            (Form::MidTransfer, session.next > 1 && !is_whole),
-            (Form::AllIn, is_whole),
+            (Form::NothingTaken, has_none),
+            (Form::MidTransfer, !has_none && !has_all),
+            (Form::AllIn, has_all),
             (Form::EightOpen, before.slots.iter().all(Option::is_some)),
             (Form::Shorter, total < session.total_bytes),
             (Form::Longer, total > session.total_bytes),
@@ -107,26 +108,30 @@ impl Watch {
         forms.into_iter().filter(|(_, holds)| *holds).map(|(form, _)| form).collect()
     }
 
-    fn end(&self, before: &Receiver, slot: usize, number: u8) -> Vec<Form> {
+    fn end(&self, before: &Receiver, slot: usize, given: &Given) -> Vec<Form> {
         let (Some(session), Some(former)) = (before.slots[slot], self.0[slot]) else {
             return vec![];
         };
-        match number {
-            0 => vec![Form::HandedOver],
-            21 if session.next == 1 && former.next > former.segments => vec![Form::EndedAtOnce],
-            _ => vec![],
+        let has_none = session.missing == session.segments;
+        if given.is(Code::HandedOver) {
+            vec![Form::HandedOver]
+        } else if given.is(Code::Grant) && has_none && former.missing == 0 {
+            vec![Form::AskedForAll]
+        } else {
+            vec![]
         }
     }
 
-    /// Sessions with nothing taken since their restart for which a reading brought another thing than it would have with the mark, or
-    /// with the wait, from before the restart.
+    /// Sessions with nothing taken or asked for since their restart for which a reading brought another thing than it would have with the
+    /// mark, or with the wait, from before the restart.
     pub fn reading(&self, before: &Receiver, reading: u32, given: &[Given]) -> Vec<Form> {
         let form = |slot: usize| {
             let (session, former) = (before.slots[slot]?, self.0[slot]?);
             let has_run_out = |mark: u32, wait| reading.wrapping_sub(mark) >= before.limits.in_force(wait);
             let had_with_mark = has_run_out(former.mark, session.wait);
             let had_with_wait = has_run_out(session.mark, former.wait);
-            match (session.next == 1, given[slot].code() != 0) {
+            let is_fresh = session.missing == session.segments && session.requests == 0;
+            match (is_fresh, given[slot].code() != 0) {
                 (true, false) if had_with_mark => Some(Form::Spared),
                 (true, false) if had_with_wait => Some(Form::SparedByWait),
                 (true, true) if !had_with_wait => Some(Form::EndedByWait),

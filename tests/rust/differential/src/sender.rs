@@ -2,6 +2,7 @@
 //! the rules.
 
 use crate::random::Random;
+use std::ops::Range;
 
 pub const MULTI_PG: u8 = 37;
 pub const CONTROL: u8 = 77;
@@ -109,6 +110,8 @@ pub struct Transfer {
     pub message: Vec<u8>,
     /// Frames already made: the announcement, each segment, the end.
     pub made: u32,
+    /// Segments that were asked for and not made again (02 E6).
+    again: Range<u32>,
 }
 
 impl Transfer {
@@ -122,13 +125,14 @@ impl Transfer {
             max: good_max(random),
             message: random.bytes(total as usize),
             made: 0,
+            again: 0..0,
         }
     }
 
     /// The line and the PGN again from the start, with another message and MAX SGMTS or with the same.
     pub fn anew(&self, random: &mut Random) -> Transfer {
         if random.once_in(4) {
-            Transfer { made: 0, ..self.clone() }
+            Transfer { made: 0, again: 0..0, ..self.clone() }
         } else {
             Transfer { pgn: self.pgn, ..Transfer::new(random, self.line) }
         }
@@ -183,8 +187,17 @@ impl Transfer {
         data_frame(random, self.line, number, data)
     }
 
+    /// The end was answered by a request: these segments come once more, and then the end.
+    pub fn asked(&mut self, first: u32, count: u8) {
+        self.made = self.segments() + 1;
+        self.again = first..first + u32::from(count);
+    }
+
     /// The next frame of an orderly transfer.
     pub fn next(&mut self, random: &mut Random) -> Frame {
+        if let Some(number) = self.again.next() {
+            return self.segment(random, number);
+        }
         let made = self.made;
         self.made += 1;
         if made == 0 {

@@ -3,18 +3,20 @@
 
 use crate::frame::{self, DATA_LENGTHS};
 use crate::groups::{self, Group, Request};
-use crate::receiver::{Answer, Ending, Key, Kind, Limits, Receiver, Session, Wait, SLOTS, SLOT_BYTES};
+use crate::receiver::{Answer, Ending, Key, Kind, Limits, Receiver, Session, Taken, Wait, SLOTS, SLOT_BYTES};
 use crate::sent::{self, Sent};
 use crate::Refusal;
 
-pub const RECORD_BYTES: usize = 261;
+pub const RECORD_BYTES: usize = 373;
 pub const ANSWER_BYTES: usize = 36;
 pub const ANSWERS_BYTES: usize = SLOTS * ANSWER_BYTES;
 /// Sixteen groups at most, of so many numbers each.
 pub const GROUPS_WORDS: usize = 96;
 pub const GROUP_WORDS: usize = 6;
 const HEAD_BYTES: usize = 13;
-const SLOT_RECORD_BYTES: usize = 31;
+const SLOT_RECORD_BYTES: usize = 45;
+/// Where a slot has which segments are in, in nine bytes.
+const TAKEN: std::ops::Range<usize> = 31..40;
 
 pub fn least_length(need: usize) -> usize {
     frame::least_length(need).unwrap_or(255)
@@ -67,6 +69,15 @@ pub fn reading(record: &mut [u8], reading: u32, store: &[u8], answers: &mut [u8]
             }
             0
         }
+    }
+}
+
+/// How many segments of the key's session are not in; no session has a session number over 15.
+pub fn missing(record: &[u8], sa: u8, da: u8, session: u8) -> usize {
+    let receiver = read_record(record).ok_or(Refusal::OutOfBounds);
+    match receiver.and_then(|receiver| receiver.missing(Key { sa, da, session })) {
+        Ok(missing) => missing as usize,
+        Err(refusal) => refused(refusal),
     }
 }
 
@@ -197,7 +208,17 @@ fn read_session(bytes: &[u8]) -> Option<Session> {
         granted: word(&bytes[22..]),
         mark: word(&bytes[26..]),
         wait,
+        taken: read_taken(&bytes[TAKEN]),
+        missing: word(&bytes[40..]),
+        requests: bytes[44],
     })
+}
+
+/// Segments 1 to 8 in the first byte, each from the low bit on.
+fn read_taken(bytes: &[u8]) -> Taken {
+    let mut number = [0; 16];
+    number[..bytes.len()].copy_from_slice(bytes);
+    Taken(u128::from_le_bytes(number))
 }
 
 /// A record's bytes from nothing: a free slot is zeros.
@@ -253,6 +274,9 @@ fn write_session(bytes: &mut [u8], session: &Session) {
     put_word(&mut bytes[22..], session.granted);
     put_word(&mut bytes[26..], session.mark);
     bytes[30] = wait_code(session.wait);
+    bytes[TAKEN].copy_from_slice(&session.taken.0.to_le_bytes()[..TAKEN.len()]);
+    put_word(&mut bytes[40..], session.missing);
+    bytes[44] = session.requests;
 }
 
 /// Up to 9 the receiver's, from 10 on the sender's.
@@ -315,9 +339,10 @@ fn put_fields(bytes: &mut [u8], answer: &Answer) {
             put_word(&mut bytes[15..], segments);
         }
         Answer::Aborted(key) => put_key(bytes, Code::Aborted, key),
-        Answer::Ended(Ending { key, kind, pgn, .. }) => {
+        Answer::Ended(Ending { key, kind, pgn, is_spent, .. }) => {
             put_key(bytes, Code::Ended, key);
             put_kind_and_pgn(bytes, kind, pgn);
+            bytes[6] = u8::from(is_spent);
         }
         Answer::RefusedRts { key, pgn, .. } => {
             put_key(bytes, Code::RefusedRts, key);

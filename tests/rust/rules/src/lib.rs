@@ -1,14 +1,15 @@
-//! The scope document's rules (01), as requests E1, E2, E4 and E5 (02) have changed them, once more in plain Rust: written from the
+//! The scope document's rules (01), as requests E1, E2, E4, E5 and E6 (02) have changed them, once more in plain Rust: written from the
 //! papers and sharing nothing with the crates that are proved. The differential run holds the two against each other. Clear before
 //! fast: a call is a few searches over eight slots or four transfers.
 //!
 //! `receiver` is the receiver over a typed state, `sending` the sender, `node` both at one address. `calls` and `sender_calls` are the
-//! same through the byte layouts of include/dwaebinam.h.
+//! same through the byte layouts of include/dwaebinam.h. `program` is what 01's program reads and prints.
 
 pub mod calls;
 pub mod frame;
 pub mod groups;
 pub mod node;
+pub mod program;
 pub mod receiver;
 pub mod sender_calls;
 pub mod sending;

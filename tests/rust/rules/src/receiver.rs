@@ -1,4 +1,4 @@
-//! 01 "Transfer frames" and "Life of a session", with E1 and E4 of 02, and E2 as far as a receiver by itself meets it: the receiver
+//! 01 "Transfer frames" and "Life of a session", with E1, E4 and E6 of 02, and E2 as far as a receiver by itself meets it: the receiver
 //! over a typed state.
 
 use crate::frame::{self, is_pgn, is_reply, is_taken, number24, Carried, Route, GLOBAL};
@@ -11,6 +11,8 @@ pub const STORE_BYTES: usize = SLOTS * SLOT_BYTES;
 pub const SEGMENT_BYTES: u32 = 60;
 /// One CTS grants no more segments than this.
 pub const GRANT: u32 = 16;
+/// 02 E6: so often an RTS session asks for segments that are missing.
+pub const REQUESTS: u8 = 5;
 pub const LARGEST_MESSAGE: u32 = 4096;
 pub const LARGEST_OWN: u8 = 253;
 pub const LARGEST_LIMIT: u32 = 60_000;
@@ -31,7 +33,7 @@ pub struct Key {
 /// 02 E4: which of its two waits a session is in.
 #[derive(Clone, Copy, Debug, PartialEq, Eq)]
 pub enum Wait {
-    /// Its announcement, or its latest segment, brought a CTS.
+    /// Its announcement, its latest segment or an EOMS brought a CTS after which no segment has come.
     First,
     /// Its latest segment brought none, or it is a broadcast.
     Second,
@@ -58,6 +60,31 @@ impl Limits {
     }
 }
 
+/// 02 E6: which segments are in. Bit n - 1 stands for segment n; a record's bytes have room for 72.
+#[derive(Clone, Copy, Debug, Default, PartialEq, Eq)]
+pub struct Taken(pub u128);
+
+impl Taken {
+    pub fn has(self, n: u32) -> bool {
+        (1..=128).contains(&n) && self.0 >> (n - 1) & 1 == 1
+    }
+
+    fn with(self, n: u32) -> Taken {
+        Taken(self.0 | 1 << (n - 1))
+    }
+
+    pub fn count(self) -> u32 {
+        self.0.count_ones()
+    }
+
+    /// Nothing past segment `last`.
+    fn ends_by(self, last: u32) -> bool {
+        self.0 >> last == 0
+    }
+}
+
+/// `next` is a broadcast's, `granted` and the three fields from `taken` on are an RTS's. What is the other kind's is 0 in a session that was
+/// opened here, and else stays as it was found.
 #[derive(Clone, Copy, Debug, PartialEq, Eq)]
 pub struct Session {
     pub kind: Kind,
@@ -67,11 +94,17 @@ pub struct Session {
     /// MAX SGMTS. A broadcast has none; the byte in its place is kept as it came.
     pub max_segments: u8,
     pub pgn: u32,
+    /// The segment that a broadcast takes next.
     pub next: u32,
-    /// The last segment granted; 0 in a broadcast that was opened here.
+    /// The last segment granted, or asked for.
     pub granted: u32,
     pub mark: u32,
     pub wait: Wait,
+    pub taken: Taken,
+    /// How many segments are not in.
+    pub missing: u32,
+    /// How often missing segments were asked for.
+    pub requests: u8,
 }
 
 #[derive(Clone, Debug, PartialEq, Eq)]
@@ -89,6 +122,8 @@ pub struct Ending {
     pub kind: Kind,
     pub pgn: u32,
     pub refusal: Refusal,
+    /// By 21 since segments were missing and all requests spent (02 E6).
+    pub is_spent: bool,
 }
 
 #[derive(Clone, Copy, Debug, PartialEq, Eq)]
@@ -102,7 +137,8 @@ pub enum Answer {
         key: Key,
         segment: u32,
     },
-    /// A CTS is due, after an RTS, the first or a repeated one, or after the segment that used a grant up.
+    /// A CTS is due: after an RTS, the first or a repeated one, after the last segment granted, or for segments that are missing at an
+    /// EOMS.
     Grant {
         key: Key,
         pgn: u32,
@@ -155,9 +191,9 @@ pub fn segments_of(total_bytes: u32) -> u32 {
     total_bytes.div_ceil(SEGMENT_BYTES)
 }
 
-/// How many segments the next CTS grants.
-fn grant(max_segments: u8, left: u32) -> u32 {
-    u32::from(max_segments).min(GRANT).min(left)
+/// How many segments the next CTS grants, of so many that it could.
+fn grant(max_segments: u8, most: u32) -> u32 {
+    u32::from(max_segments).min(GRANT).min(most)
 }
 
 pub(crate) fn opening_ok(own: u8, limits: &[u32]) -> bool {
@@ -165,9 +201,35 @@ pub(crate) fn opening_ok(own: u8, limits: &[u32]) -> bool {
 }
 
 impl Session {
-    /// All segments are in.
-    fn is_whole(&self) -> bool {
-        self.next > self.segments
+    /// How many segments are not in.
+    pub fn missing(&self) -> u32 {
+        match self.kind {
+            Kind::Rts => self.missing,
+            Kind::Bam => self.segments + 1 - self.next,
+        }
+    }
+
+    /// Segment `n` is in. There is no segment 0, and 18 is for it too.
+    fn is_in(&self, n: u32) -> bool {
+        match self.kind {
+            Kind::Rts => n == 0 || self.taken.has(n),
+            Kind::Bam => n < self.next,
+        }
+    }
+
+    /// The last segment that may come now: an RTS's come in any order, a broadcast's one after the other.
+    fn last_due(&self) -> u32 {
+        match self.kind {
+            Kind::Rts => self.segments,
+            Kind::Bam => self.next.min(self.segments),
+        }
+    }
+
+    /// The first run of missing segments: its first one, and how many.
+    fn first_run(&self) -> (u32, u32) {
+        let first = (1..=self.segments).find(|&n| !self.taken.has(n)).unwrap_or(self.segments + 1);
+        let run = (first..=self.segments).take_while(|&n| !self.taken.has(n)).count();
+        (first, run as u32)
     }
 
     /// How many bytes of the message segment `n` brings.
@@ -176,35 +238,32 @@ impl Session {
         (self.total_bytes - before).min(SEGMENT_BYTES) as usize
     }
 
-    /// 01 "State in bounds", for one open slot.
+    /// 01 "State in bounds", for one open slot, with E4 and E6 of 02.
     fn in_bounds(&self, own: u8) -> bool {
         let announced = (1..=LARGEST_MESSAGE).contains(&self.total_bytes)
             && self.segments == segments_of(self.total_bytes)
             && is_pgn(self.pgn);
         let route = Route { sa: self.key.sa, da: self.key.da };
-        announced
-            && is_taken(route, own)
-            && self.key.session <= 15
-            && (1..=self.segments + 1).contains(&self.next)
-            && self.kind_in_bounds(own)
+        announced && is_taken(route, own) && self.key.session <= 15 && self.kind_in_bounds(own)
     }
 
+    /// The segments are a message's here.
     fn kind_in_bounds(&self, own: u8) -> bool {
         match self.kind {
-            Kind::Bam => self.key.da == GLOBAL && self.wait == Wait::Second,
+            Kind::Bam => {
+                let next_ok = (1..=self.segments + 1).contains(&self.next);
+                self.key.da == GLOBAL && self.wait == Wait::Second && next_ok
+            }
             Kind::Rts => {
-                let grant_ok = if self.is_whole() {
-                    self.granted == self.segments
-                } else {
-                    (self.next..=self.segments).contains(&self.granted)
-                };
-                self.key.da == own && self.max_segments >= 1 && grant_ok
+                let taken_ok = self.taken.ends_by(self.segments) && self.missing == self.segments - self.taken.count();
+                let grant_ok = (1..=self.segments).contains(&self.granted);
+                self.key.da == own && self.max_segments >= 1 && taken_ok && grant_ok && self.requests <= REQUESTS
             }
         }
     }
 
     fn ended_by(&self, refusal: Refusal) -> Ending {
-        Ending { key: self.key, kind: self.kind, pgn: self.pgn, refusal }
+        Ending { key: self.key, kind: self.kind, pgn: self.pgn, refusal, is_spent: false }
     }
 }
 
@@ -324,12 +383,7 @@ impl Receiver {
     }
 
     fn open_session(&mut self, slot: usize, key: Key, a: &Announcement) -> Answer {
-        let count = grant(a.max_segments, a.segments);
-        let (granted, wait) = match a.kind {
-            Kind::Rts => (count, Wait::First),
-            Kind::Bam => (0, Wait::Second),
-        };
-        self.slots[slot] = Some(Session {
+        let broadcast = Session {
             kind: a.kind,
             key,
             total_bytes: a.total_bytes,
@@ -337,14 +391,23 @@ impl Receiver {
             max_segments: a.max_segments,
             pgn: a.pgn,
             next: 1,
-            granted,
+            granted: 0,
             mark: self.last_reading,
-            wait,
-        });
-        match a.kind {
-            Kind::Rts => Answer::Grant { key, pgn: a.pgn, next: 1, count: count as u8 },
-            Kind::Bam => Answer::Opened(key),
-        }
+            wait: Wait::Second,
+            taken: Taken::default(),
+            missing: 0,
+            requests: 0,
+        };
+        let count = grant(a.max_segments, a.segments);
+        let (session, answer) = match a.kind {
+            Kind::Bam => (broadcast, Answer::Opened(key)),
+            Kind::Rts => (
+                Session { next: 0, granted: count, wait: Wait::First, missing: a.segments, ..broadcast },
+                Answer::Grant { key, pgn: a.pgn, next: 1, count: count as u8 },
+            ),
+        };
+        self.slots[slot] = Some(session);
+        answer
     }
 
     fn segment(&mut self, route: Route, bytes: &[u8], store: &mut [u8]) -> Result<Answer, Refusal> {
@@ -354,10 +417,10 @@ impl Receiver {
         let key = Key { sa: route.sa, da: route.da, session: bytes[0] >> 4 };
         let (slot, session) = self.find(key).ok_or(Refusal::KeyNotOpen)?;
         let n = number24(&bytes[1..4]);
-        if n < session.next {
+        if session.is_in(n) {
             return Err(Refusal::SegmentAlreadyTaken);
         }
-        if n > session.next || n > session.segments {
+        if n > session.last_due() {
             return Ok(self.end(slot, session, Refusal::SegmentOutOfSequence));
         }
         let due = session.data_due(n);
@@ -371,10 +434,15 @@ impl Receiver {
 
     /// Segment `n` of the session is in.
     fn bring_forward(&mut self, slot: usize, session: Session, n: u32) -> Answer {
-        let mut forward = Session { next: n + 1, mark: self.last_reading, wait: Wait::Second, ..session };
+        let mut forward = Session { mark: self.last_reading, wait: Wait::Second, ..session };
+        match session.kind {
+            Kind::Bam => forward.next = n + 1,
+            Kind::Rts => (forward.taken, forward.missing) = (session.taken.with(n), session.missing - 1),
+        }
+        // 02 E6: whether the segments after the last one granted are in does not matter; once some were asked for, no segment brings a CTS.
         let left = session.segments - n;
-        let grant_used_up = session.kind == Kind::Rts && n == session.granted;
-        let answer = if grant_used_up && left > 0 {
+        let brings_cts = session.kind == Kind::Rts && session.requests == 0 && n == session.granted && left > 0;
+        let answer = if brings_cts {
             let count = grant(session.max_segments, left);
             forward.granted = n + count;
             forward.wait = Wait::First;
@@ -392,12 +460,43 @@ impl Receiver {
             && number24(&bytes[4..7]) == session.segments
             && bytes[8] == 0
             && number24(&bytes[9..12]) == session.pgn;
-        if !session.is_whole() || !as_announced {
+        let is_whole = session.missing() == 0;
+        if !as_announced || (session.kind == Kind::Bam && !is_whole) {
             return Ok(self.end(slot, session, Refusal::EndNotAsAnnounced));
+        }
+        if !is_whole {
+            return Ok(self.request(slot, session));
         }
         self.slots[slot] = None;
         let Session { kind, pgn, total_bytes, segments, .. } = session;
         Ok(Answer::HandedOver { key, kind, slot, pgn, total_bytes, segments })
+    }
+
+    /// 02 E6: asks an RTS's originator for the first run that is missing, or ends the session where it was asked too often.
+    fn request(&mut self, slot: usize, session: Session) -> Answer {
+        if session.requests == REQUESTS {
+            self.slots[slot] = None;
+            return Answer::Ended(Ending { is_spent: true, ..session.ended_by(Refusal::EndNotAsAnnounced) });
+        }
+        let (first, run) = session.first_run();
+        let count = grant(session.max_segments, run);
+        self.slots[slot] = Some(Session {
+            granted: first + count - 1,
+            mark: self.last_reading,
+            wait: Wait::First,
+            requests: session.requests + 1,
+            ..session
+        });
+        Answer::Grant { key: session.key, pgn: session.pgn, next: first, count: count as u8 }
+    }
+
+    /// How many segments of the open session of this key are not in.
+    pub fn missing(&self, key: Key) -> Result<u32, Refusal> {
+        if !self.in_bounds() {
+            return Err(Refusal::OutOfBounds);
+        }
+        let (_, session) = self.find(key).ok_or(Refusal::KeyNotOpen)?;
+        Ok(session.missing())
     }
 
     fn abort(&mut self, key: Key, bytes: &[u8]) -> Result<Answer, Refusal> {

@@ -17,15 +17,24 @@ pub fn of_answer(answer: &Answer) -> Option<Sent> {
             Some(eoma(key, pgn, total_bytes, segments))
         }
         Answer::Ended(ending) => of_ending(&ending),
-        Answer::RefusedRts { key, pgn, refusal } => Some(abort(key, pgn, refusal)),
+        Answer::RefusedRts { key, pgn, refusal } => Some(abort(key, pgn, wire_reason(refusal))),
         _ => None,
     }
 }
 
 pub fn of_ending(ending: &Ending) -> Option<Sent> {
     match ending.kind {
-        Kind::Rts => Some(abort(ending.key, ending.pgn, ending.refusal)),
+        Kind::Rts => Some(abort(ending.key, ending.pgn, reason_of(ending))),
         Kind::Bam => None,
+    }
+}
+
+/// Table 11 has a line for requests that are spent, not for the other causes of 21.
+fn reason_of(ending: &Ending) -> u8 {
+    if ending.is_spent {
+        5
+    } else {
+        wire_reason(ending.refusal)
     }
 }
 
@@ -52,9 +61,9 @@ fn eoma(key: Key, pgn: u32, total_bytes: u32, segments: u32) -> Sent {
 }
 
 /// Role 01, the responder's, stands below six reserved ones.
-fn abort(key: Key, pgn: u32, refusal: Refusal) -> Sent {
+fn abort(key: Key, pgn: u32, reason: u8) -> Sent {
     let role = 0b1111_1101;
-    frame(key, 15, [0xFF, 0xFF, 0xFF, 0xFF, 0xFF, 0xFF, role, wire_reason(refusal)], pgn)
+    frame(key, 15, [0xFF, 0xFF, 0xFF, 0xFF, 0xFF, 0xFF, role, reason], pgn)
 }
 
 /// Priority 7, pages 0, PF 77, from the destination of the session's frames to their sender.

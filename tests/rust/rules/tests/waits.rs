@@ -1,10 +1,11 @@
 //! 02 E4, case by case through the calls: which limit ends a session after what, what leaves its wait alone, and what is 23. In session 3
-//! the address 128 sends 130 bytes in three segments, by BAM or by RTS. Its MAX SGMTS is 2: a CTS follows the RTS and segment 2.
+//! the address 128 sends 130 bytes in three segments, by BAM or by RTS. Its MAX SGMTS is 2: a CTS follows the RTS and segment 2, and an
+//! EOMS while segments are missing (02 E6).
 
 use rules::calls::{self, ANSWERS_BYTES, ANSWER_BYTES, RECORD_BYTES};
 use rules::receiver::STORE_BYTES;
 use rules::sender_calls::{node_frame, sender_open, SENDER_BYTES};
-use Step::{Bam, Reading, Rts, Segment, ToAll};
+use Step::{Bam, Reading, Rts, Segment, Status, ToAll};
 
 const OWN: u8 = 33;
 /// From 128 to us and to all.
@@ -14,10 +15,11 @@ const CONTROL_TO_ALL: u32 = 0x1C4D_FF80;
 const DATA_TO_ALL: u32 = 0x1C4E_FF80;
 const RTS: &str = "30 82 00 00 03 00 00 02 00 CA FE 00";
 const BAM: &str = "34 82 00 00 03 00 00 FF 00 CA FE 00";
+const EOMS: &str = "32 82 00 00 03 00 00 00 00 CA FE 00";
 /// Where slot 0 starts in a record, where its wait stands, and where slot 1 starts.
 const SLOT_0: usize = 13;
 const WAIT_0: usize = 43;
-const SLOT_1: usize = 44;
+const SLOT_1: usize = 58;
 
 #[derive(Clone, Copy, Debug, PartialEq, Eq)]
 enum Step {
@@ -26,6 +28,8 @@ enum Step {
     Segment(u8),
     /// A segment of the broadcast.
     ToAll(u8),
+    /// The RTS's EOMS.
+    Status,
     Reading(u32),
 }
 
@@ -61,6 +65,7 @@ impl Bench {
                 Bam => assert_eq!(bench.frame(CONTROL_TO_ALL, &hex(BAM)), 0, "{steps:?}"),
                 Segment(number) => assert_eq!(bench.frame(DATA, &segment(0, number)), 0, "{steps:?}"),
                 ToAll(number) => assert_eq!(bench.frame(DATA_TO_ALL, &segment(0, number)), 0, "{steps:?}"),
+                Status => assert_eq!(bench.frame(CONTROL, &hex(EOMS)), 0, "{steps:?}"),
                 Reading(reading) => assert_eq!(bench.ended(reading), [], "{steps:?}"),
             }
         }
@@ -126,7 +131,7 @@ impl Bench {
 /// First and second limit and the reading of the opening; what came then; the wait that the session is in, and the reading that ends it.
 type Case = (u32, u32, u32, &'static [Step], u8, u32);
 
-const CASES: [Case; 43] = [
+const CASES: [Case; 61] = [
     // The second limit is the shorter.
     (1_250, 750, 0, &[Rts], 1, 1_250),
     (1_250, 750, 0, &[Rts, Segment(1)], 2, 750),
@@ -169,6 +174,26 @@ const CASES: [Case; 43] = [
     (1_250, 750, 4_294_966_046, &[Rts], 1, 0),
     (1_250, 750, 4_294_966_546, &[Rts, Segment(1)], 2, 0),
     (1_250, 750, 4_294_966_990, &[Rts, Reading(100), Segment(1)], 2, 850),
+    // Segments in any order: only the last one granted brings a CTS, also for one that is in.
+    (1_250, 750, 0, &[Rts, Segment(3)], 2, 750),
+    (1_250, 750, 0, &[Rts, Segment(2)], 1, 1_250),
+    (1_250, 750, 0, &[Rts, Segment(3), Segment(2)], 1, 1_250),
+    (1_250, 750, 0, &[Rts, Segment(2), Segment(1)], 2, 750),
+    (750, 1_250, 0, &[Rts, Segment(3)], 2, 1_250),
+    (750, 1_250, 0, &[Rts, Segment(3), Segment(2)], 1, 750),
+    // A request starts the first wait from its own mark; after it no segment brings a CTS.
+    (1_250, 750, 0, &[Rts, Status], 1, 1_250),
+    (1_250, 750, 0, &[Rts, Segment(1), Status], 1, 1_250),
+    (1_250, 750, 0, &[Rts, Segment(1), Status, Status], 1, 1_250),
+    (1_250, 750, 0, &[Rts, Segment(3), Status, Segment(2)], 2, 750),
+    (1_250, 750, 0, &[Rts, Segment(1), Status, Rts], 1, 1_250),
+    (1_250, 750, 0, &[Rts, Segment(1), Reading(749), Status], 1, 1_999),
+    (1_250, 750, 0, &[Rts, Segment(1), Reading(749), Status, Reading(1_998), Segment(2)], 2, 2_748),
+    (1_250, 750, 0, &[Rts, Reading(1_249), Status, Reading(2_498), Status], 1, 3_748),
+    (1_250, 750, 4_294_967_290, &[Rts, Segment(3), Status], 1, 1_244),
+    (750, 1_250, 0, &[Rts, Segment(1), Status], 1, 750),
+    (750, 1_250, 0, &[Rts, Segment(3), Status, Segment(2)], 2, 1_250),
+    (750, 1_250, 0, &[Rts, Segment(1), Reading(1_249), Status], 1, 1_999),
     // The least limit and the largest.
     (60_000, 1, 0, &[Rts], 1, 60_000),
     (60_000, 1, 0, &[Rts, Segment(1)], 2, 1),
@@ -187,13 +212,16 @@ fn the_limit_in_force() {
     }
 }
 
-/// Each way into a wait, with the segment that would be next.
-const WAYS: [(&[Step], u8, u8); 8] = [
+/// Each way into a wait, with the first segment that is not in.
+const WAYS: [(&[Step], u8, u8); 11] = [
     (&[Rts], 1, 1),
     (&[Rts, Segment(1)], 2, 2),
     (&[Rts, Segment(1), Segment(2)], 1, 3),
     (&[Rts, Segment(1), Segment(2), Segment(3)], 2, 4),
     (&[Rts, Segment(1), Rts], 1, 1),
+    (&[Rts, Segment(3)], 2, 1),
+    (&[Rts, Segment(1), Status], 1, 2),
+    (&[Rts, Segment(3), Segment(1), Status, Segment(2)], 2, 4),
     (&[Bam], 2, 1),
     (&[Bam, ToAll(1)], 2, 2),
     (&[Bam, ToAll(1), ToAll(2), ToAll(3)], 2, 4),
@@ -317,31 +345,40 @@ fn a_refused_announcement_changes_nothing() {
     }
 }
 
-/// Head and slot 0; zeros in the other slots.
-fn record_is(bench: &Bench, head: &str, slot: &str) {
+/// Head, and slot 0 up to its wait; the number missing is behind it, and zeros are in the other slots.
+fn record_is(bench: &Bench, head: &str, slot: &str, taken: u8, missing: u8) {
     assert_eq!(bench.record.len(), RECORD_BYTES);
     assert_eq!(bench.record[..SLOT_0], hex(head));
-    assert_eq!(bench.record[SLOT_0..SLOT_1], hex(slot));
+    assert_eq!(bench.record[SLOT_0..=WAIT_0], hex(slot));
+    let behind = [&[taken, 0, 0, 0, 0, 0, 0, 0, 0][..], &[missing, 0, 0, 0], &[0]].concat();
+    assert_eq!(bench.record[WAIT_0 + 1..SLOT_1], behind);
     assert!(bench.record[SLOT_1..].iter().all(|&byte| byte == 0));
 }
 
 #[test]
 fn the_records_bytes() {
     let head = "21 E2 04 00 00 EE 02 00 00 FA FF FF FF";
-    for (steps, slot) in [
-        (&[Rts][..], "01 01 80 21 03 82 00 00 00 03 00 00 00 02 CA FE 00 00 01 00 00 00 02 00 00 00 FA FF FF FF 01"),
+    for (steps, slot, taken, missing) in [
+        (
+            &[Rts][..],
+            "01 01 80 21 03 82 00 00 00 03 00 00 00 02 CA FE 00 00 00 00 00 00 02 00 00 00 FA FF FF FF 01",
+            0,
+            3,
+        ),
         (
             &[Rts, Segment(1)],
-            "01 01 80 21 03 82 00 00 00 03 00 00 00 02 CA FE 00 00 02 00 00 00 02 00 00 00 FA FF FF FF 02",
+            "01 01 80 21 03 82 00 00 00 03 00 00 00 02 CA FE 00 00 00 00 00 00 02 00 00 00 FA FF FF FF 02",
+            1,
+            2,
         ),
-        (&[Bam], "01 02 80 FF 03 82 00 00 00 03 00 00 00 FF CA FE 00 00 01 00 00 00 00 00 00 00 FA FF FF FF 02"),
+        (&[Bam], "01 02 80 FF 03 82 00 00 00 03 00 00 00 FF CA FE 00 00 01 00 00 00 00 00 00 00 FA FF FF FF 02", 0, 0),
     ] {
-        record_is(&Bench::after(1_250, 750, 4_294_967_290, steps), head, slot);
+        record_is(&Bench::after(1_250, 750, 4_294_967_290, steps), head, slot, taken, missing);
     }
     let later =
         Bench::after(60_000, 1, 0, &[Rts, Segment(1), Segment(2), Segment(3), Reading(0), Rts, Reading(59_999)]);
-    let slot = "01 01 80 21 03 82 00 00 00 03 00 00 00 02 CA FE 00 00 01 00 00 00 02 00 00 00 00 00 00 00 01";
-    record_is(&later, "21 60 EA 00 00 01 00 00 00 5F EA 00 00", slot);
+    let slot = "01 01 80 21 03 82 00 00 00 03 00 00 00 02 CA FE 00 00 00 00 00 00 02 00 00 00 00 00 00 00 01";
+    record_is(&later, "21 60 EA 00 00 01 00 00 00 5F EA 00 00", slot, 0, 3);
 }
 
 #[test]
@@ -380,7 +417,7 @@ fn openings() {
 
 #[test]
 fn an_opening_of_other_lengths() {
-    for length in [0, 1, 113, 249, RECORD_BYTES - 1, RECORD_BYTES + 1] {
+    for length in [0, 1, 113, 261, RECORD_BYTES - 1, RECORD_BYTES + 1] {
         let mut record = vec![0x77; length];
         assert_eq!(calls::open(&mut record, OWN, 1_250, 750, 5), 23);
         assert_eq!(record, vec![0x77; length]);
@@ -412,12 +449,12 @@ fn the_byte_of_a_wait_in_a_free_slot() {
     for byte in 0..=255 {
         let mut bench = Bench::open(1_250, 750, 0);
         for slot in 0..8 {
-            bench.record[WAIT_0 + 31 * slot] = byte;
+            bench.record[WAIT_0 + 45 * slot] = byte;
         }
         assert_eq!(bench.ended(5), []);
         assert_eq!(bench.frame(CONTROL, &hex(RTS)), 0);
         assert_eq!(bench.record[WAIT_0], 1);
-        assert!((1..8).all(|slot| bench.record[WAIT_0 + 31 * slot] == byte));
+        assert!((1..8).all(|slot| bench.record[WAIT_0 + 45 * slot] == byte));
     }
 }
 

@@ -26,8 +26,8 @@ copy-requires c κs = search needs
 enum-known-end : tie.Need-enum-known-end
 enum-known-end c = search needs
 
-ended-fields-requires : tie.Need-ended-fields-requires
-ended-fields-requires c κs = search needs
+session-ended-requires : tie.Need-session-ended-requires
+session-ended-requires c κs = search needs
 
 put-fields-requires : tie.Need-put-fields-requires
 put-fields-requires c κs = search needs
@@ -62,9 +62,9 @@ returns-2 c =
     let a = known .before .before .before .args in
     let d = now (a .out) in
     let s = response .response-of-end .result in
-    fields-put (fields .ended-fields .result) (sentBytes s) (length-sent s) d (put .put-fields .last .1 .0) (sent .put-sending .last .1 .0) (a .at)
+    fields-put (fields .session-ended .result) (sentBytes s) (length-sent s) d (put .put-fields .last .1 .0) (sent .put-sending .last .1 .0) (a .at)
     (search needs) (put .put-fields .ensures) (sent .put-sending .ensures)
-    ∙ ap₂ (λ (f : Fields) (s : Sending). paste d (a .at) (fieldsBytes f ++ sentBytes s) answerLength) (fields .ended-fields .ensures) (response .response-of-end .ensures)
+    ∙ ap₂ (λ (f : Fields) (s : Sending). paste d (a .at) (fieldsBytes f ++ sentBytes s) answerLength) (fields .session-ended .ensures) (response .response-of-end .ensures)
     ∙ ap (λ (e : End). paste d (a .at) (endBytes e) answerLength) (sym (known .end .given .1))
 
 pub put-end-spec : {M : Type 1} → statement M
@@ -75,7 +75,7 @@ put-end-spec =
     slice-aggregate-copy
     copy-requires
     enum-known-end
-    ended-fields-requires
+    session-ended-requires
     put-fields-requires
     response-of-end-requires
     put-sending-requires

@@ -1,4 +1,5 @@
 use mathlib.Core.Path.{sym, ap, _∙_}
+use mathlib.Core.List.{[]}
 use lib.Dec.{eqb}
 use lib.ListN.{length}
 use denote.Ref.{now}
@@ -44,7 +45,7 @@ returns-3 c =
     let own : Address = recordAt b .own in
     and-next (eqb (length (now (a .bytes))) recordLength) _ _ (eq-eqb _ _ (c .before .before .before .before .before .if1 .left))
     (and-next (eqb (a .store) 32768) _ _ (eq-eqb _ _ (c .before .before .before .before .if2 .left))
-    (and-stop _ (piecesReady own (piecesOf b)) (ap (valuesOk own) (sym (c .before .before .limits-of .ensures)) ∙ sym (c .before .values-ok .ensures) ∙ not-true _ (c .if3 .taken))))
+    (and-stop _ (piecesReady own [] (piecesOf b)) (ap (valuesOk own) (sym (c .before .before .limits-of .ensures)) ∙ sym (c .before .values-ok .ensures) ∙ not-true _ (c .if3 .taken))))
     ∙ sym (ready-in (now (a .bytes)) (a .store))
 
 slots-ready-requires : tie.Need-slots-ready-requires

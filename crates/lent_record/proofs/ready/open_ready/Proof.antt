@@ -66,11 +66,8 @@ returns-2 c =
     no-bounds (a .own) (now (a .bytes)) (a .i) (search needs) _ (c .before .before .before .before .before .codes-ok .ensures) (not-false _ (c .before .before .before .before .if1 .left)) _ _
     (c .before .before .session-at .ensures ∙ ap (λ (n : ℕ). sessionAt (take n (drop k (now (a .bytes))))) e) (c .before .session-ok .ensures) (not-true _ (c .if2 .taken))
 
-add-any-holds : tie.Need-add-any-holds
-add-any-holds c = search needs
-
-any-holds-requires : tie.Need-any-holds-requires
-any-holds-requires c κs = search needs
+any-before-requires : tie.Need-any-before-requires
+any-before-requires c κs = search needs
 
 returns-3 : tie.Need-returns-3
 returns-3 c =
@@ -83,7 +80,7 @@ returns-3 c =
     let e : k + slotLength - k ≡ slotLength = omega arith in
     no-twin (a .own) (now (a .bytes)) (a .i) (search needs) _ (at-codes-ok .codes-ok .ensures) (not-false _ (at-if1 .if1 .left)) _ _
     (at-session-at .session-at .ensures ∙ ap (λ (n : ℕ). sessionAt (take n (drop k (now (a .bytes))))) e) (c .before .before .session-ok .ensures)
-    (not-false _ (c .before .if2 .left)) _ (c .any-holds .ensures)
+    (not-false _ (c .before .if2 .left)) _ (c .any-before .ensures)
 
 pub open-ready-spec : {M : Type 1} → statement M
 open-ready-spec =
@@ -105,6 +102,5 @@ open-ready-spec =
     session-at-requires
     session-ok-requires
     returns-2
-    add-any-holds
-    any-holds-requires
+    any-before-requires
     returns-3)

@@ -11,13 +11,26 @@ is-cts-due-requires c κs = search needs
 wait-after-requires : tie.Need-wait-after-requires
 wait-after-requires c κs = search needs
 
-add-t8 : tie.Need-add-t8
-add-t8 c = search needs
+next-after-requires : tie.Need-next-after-requires
+next-after-requires c κs = search needs
+
+taken-after-requires : tie.Need-taken-after-requires
+taken-after-requires c κs = search needs
+
+missing-after-requires : tie.Need-missing-after-requires
+missing-after-requires c κs = search needs
 
 returns : tie.Need-returns
-returns c = rw (c .before .before .before .granted-after .ensures, c .before .wait-after .ensures, c .before .before .is-cts-due .ensures)
+returns c = rw (
+  c .before .before .before .before .before .next-after .ensures,
+  c .before .before .before .before .taken-after .ensures,
+  c .before .before .before .missing-after .ensures,
+  c .before .before .granted-after .ensures,
+  c .wait-after .ensures,
+  c .before .is-cts-due .ensures,
+)
 
 pub advance-spec : {M : Type 1} → statement M
 advance-spec =
     tie.close
-    (tie.spec granted-after-requires is-cts-due-requires wait-after-requires add-t8 returns)
+    (tie.spec next-after-requires taken-after-requires missing-after-requires granted-after-requires is-cts-due-requires wait-after-requires returns)

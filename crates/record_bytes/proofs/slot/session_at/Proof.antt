@@ -8,20 +8,17 @@ shared-slice-read-kind-at c = search needs
 kind-at-requires : tie.Need-kind-at-requires
 kind-at-requires c κs = search needs
 
-shared-slice-read-wait-at : tie.Need-shared-slice-read-wait-at
-shared-slice-read-wait-at c = search needs
-
-wait-at-requires : tie.Need-wait-at-requires
-wait-at-requires c κs = search needs
+progress-at-requires : tie.Need-progress-at-requires
+progress-at-requires c κs = search needs
 
 shared-slice-read-t5 : tie.Need-shared-slice-read-t5
 shared-slice-read-t5 c = search needs
 
-shared-slice-read-t10 : tie.Need-shared-slice-read-t10
-shared-slice-read-t10 c = search needs
+shared-slice-read-t9 : tie.Need-shared-slice-read-t9
+shared-slice-read-t9 c = search needs
 
-shared-slice-read-t13 : tie.Need-shared-slice-read-t13
-shared-slice-read-t13 c = search needs
+shared-slice-read-t12 : tie.Need-shared-slice-read-t12
+shared-slice-read-t12 c = search needs
 
 word-at-requires : tie.Need-word-at-requires
 word-at-requires c κs = search needs
@@ -29,20 +26,11 @@ word-at-requires c κs = search needs
 word-at-requires-2 : tie.Need-word-at-requires-2
 word-at-requires-2 c κs = search needs
 
-shared-slice-read-t21 : tie.Need-shared-slice-read-t21
-shared-slice-read-t21 c = search needs
+shared-slice-read-t20 : tie.Need-shared-slice-read-t20
+shared-slice-read-t20 c = search needs
 
 word-at-requires-3 : tie.Need-word-at-requires-3
 word-at-requires-3 c κs = search needs
-
-word-at-requires-4 : tie.Need-word-at-requires-4
-word-at-requires-4 c κs = search needs
-
-word-at-requires-5 : tie.Need-word-at-requires-5
-word-at-requires-5 c κs = search needs
-
-word-at-requires-6 : tie.Need-word-at-requires-6
-word-at-requires-6 c κs = search needs
 
 returns : tie.Need-returns
 returns c = cc
@@ -53,16 +41,12 @@ session-at-spec =
     (tie.spec
     shared-slice-read-kind-at
     kind-at-requires
-    shared-slice-read-wait-at
-    wait-at-requires
+    progress-at-requires
     shared-slice-read-t5
-    shared-slice-read-t10
-    shared-slice-read-t13
+    shared-slice-read-t9
+    shared-slice-read-t12
     word-at-requires
     word-at-requires-2
-    shared-slice-read-t21
+    shared-slice-read-t20
     word-at-requires-3
-    word-at-requires-4
-    word-at-requires-5
-    word-at-requires-6
     returns)

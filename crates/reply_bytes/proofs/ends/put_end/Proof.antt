@@ -60,7 +60,7 @@ returns-2 c =
     let a = known .before .before .before .args in
     let e = known .end .given .0 .0 in
     let d = now (a .out) in
-    placed (fields .ended-fields .result) (endedFields 17 e) (said .going-of-end .result) (wireBytes (endingWire e)) (length-ending e)
+    placed (fields .ended-fields .result) (endedFields 17 0 e) (said .going-of-end .result) (wireBytes (endingWire e)) (length-ending e)
     (fields .ended-fields .ensures) (said .going-of-end .ensures) d (put .put-fields .last .1 .0) (going .put-going .last .1 .0)
     (a .at) (search needs) (put .put-fields .ensures) (going .put-going .ensures)
     ∙ ap (λ (x : End). paste d (a .at) (transferEndBytes x) answerLength) (sym (known .end .given .1))

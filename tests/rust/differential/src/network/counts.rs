@@ -1,5 +1,7 @@
-//! What the network brought.
+//! What the network brought, and had to bring.
 
+use super::announced::{Announced, EDGES};
+use crate::pair::{expect, Verdict};
 use crate::waits::Silence;
 use rules::receiver::Limits;
 use std::cmp::Ordering;
@@ -33,15 +35,29 @@ pub enum Met {
     EightOpen,
     OutOfSequence,
     EndTooEarly,
+    Asked,
     TooLate,
     TooLateToSender,
     TakenByNode,
     ReplyTakenByNode,
     ThirdToNode,
     NodeToThird,
+    DroppedSegment,
+    DroppedLast,
+    AskedForSegments,
+    NoneLost,
+    FewLost,
+    FiveLost,
+    ManyLost,
+    SpentBySegments,
+    SpentBySix,
+    BroadcastUnhurt,
+    BroadcastOutOfSequence,
+    BroadcastCut,
+    TooLateForBroadcast,
 }
 
-const LEAST: [(&str, u64); 32] = [
+const LEAST: [(&str, u64); 46] = [
     ("arrivals", 10_000),
     ("arrivals by BAM", 3_000),
     ("arrivals of a length at an edge", 3_000),
@@ -66,18 +82,37 @@ const LEAST: [(&str, u64); 32] = [
     ("Aborts by the originator", 200),
     ("arrivals not acknowledged", 50),
     ("announcements to eight open sessions", 20),
-    ("segments out of sequence", 200),
-    ("ends too early", 50),
+    ("segments of broadcasts out of sequence", 200),
+    ("ends of broadcasts too early", 50),
+    ("requests", 200),
     ("frames too late for their session", 500),
     ("replies too late for their transfer", 50),
     ("frames taken by a node", 10_000),
     ("replies taken by a node", 5_000),
     ("messages of a third to the sending node", 500),
     ("messages of the receiving node to a third", 500),
+    ("segments alone lost", 10_000),
+    ("last segments of a message lost before any request", 500),
+    ("requests where segments alone were lost", 2_000),
+    ("arrivals by RTS with no segment lost", 500),
+    ("arrivals by RTS with one to five segments lost", 500),
+    ("arrivals by RTS with five segments lost", 50),
+    ("arrivals by RTS with six segments lost or more", 200),
+    ("ends by requests spent where segments alone were lost", 200),
+    ("ends by requests spent with six segments lost", 10),
+    ("broadcasts with no segment lost", 500),
+    ("broadcasts ended by 19 where segments alone were lost", 200),
+    ("broadcasts ended by 21 where segments alone were lost", 50),
+    ("frames too late for such a broadcast", 500),
 ];
 
-#[derive(Default)]
 pub struct Counts([u64; LEAST.len()]);
+
+impl Default for Counts {
+    fn default() -> Counts {
+        Counts([0; LEAST.len()])
+    }
+}
 
 impl Counts {
     pub fn add(&mut self, met: Met) {
@@ -109,6 +144,60 @@ impl Counts {
         }
     }
 
+    /// Nothing was lost.
+    pub fn arrived(&mut self, a: &Announced) -> Verdict<()> {
+        let length = a.message.len();
+        expect(a.arrived && a.ended_well, || format!("a message of {length} bytes did not arrive"))?;
+        self.add(Met::Arrived);
+        if a.is_broadcast() {
+            self.add(Met::ArrivedByBam);
+        }
+        if EDGES.contains(&length) {
+            self.add(Met::ArrivedAtAnEdge);
+        }
+        Ok(())
+    }
+
+    /// Any frames were lost: it may have arrived or not.
+    pub fn in_spite_of_losses(&mut self, a: &Announced) {
+        self.add(if a.arrived { Met::ArrivedInSpite } else { Met::Lost });
+        if a.arrived && !a.ended_well {
+            self.add(Met::NotAcknowledged);
+        }
+    }
+
+    /// Segments alone were lost. By RTS it has arrived, or the receiver has asked five times and a segment was lost for every request and
+    /// for the end; by BAM it has arrived where none was lost, and else ended by 19 or 21.
+    pub fn with_segments_lost(&mut self, a: &Announced) -> Verdict<()> {
+        let Announced { lost, arrived, ended_well, requests, ended_by, .. } = *a;
+        let told = || {
+            format!("{lost} segments lost, {requests} requests: arrived {arrived}, well {ended_well}, by {ended_by:?}")
+        };
+        let is_right = match ended_by {
+            None => arrived && ended_well && (lost == 0 || !a.is_broadcast()) && requests <= lost,
+            Some(21) if !a.is_broadcast() => !arrived && !ended_well && requests == 5 && lost >= 6,
+            Some(19 | 21) => !arrived && a.is_broadcast() && lost > 0,
+            Some(_) => false,
+        };
+        expect(is_right, told)?;
+        match (a.is_broadcast(), ended_by, lost) {
+            (true, None, _) => self.add(Met::BroadcastUnhurt),
+            (true, Some(19), _) => self.add(Met::BroadcastOutOfSequence),
+            (true, _, _) => self.add(Met::BroadcastCut),
+            (false, None, 0) => self.add(Met::NoneLost),
+            (false, None, 1..=5) => self.add(Met::FewLost),
+            (false, None, _) => self.add(Met::ManyLost),
+            (false, Some(_), _) => self.add(Met::SpentBySegments),
+        }
+        if !a.is_broadcast() && lost == 5 {
+            self.add(Met::FiveLost);
+        }
+        if !a.is_broadcast() && lost == 6 && ended_by.is_some() {
+            self.add(Met::SpentBySix);
+        }
+        Ok(())
+    }
+
     fn of(&self, met: Met) -> u64 {
         self.0[met as usize]
     }
@@ -121,6 +210,12 @@ impl Counts {
     pub fn line(&self) -> String {
         let [arrived, in_spite] = [Met::Arrived, Met::ArrivedInSpite].map(|met| self.of(met));
         let lost = self.of(Met::DroppedToReceiver) + self.of(Met::DroppedToSender);
-        format!("network: {arrived} transfers arrived, {lost} lost frames, {in_spite} messages handed over with losses")
+        let segments = self.of(Met::DroppedSegment) + self.of(Met::DroppedLast);
+        let [asked, spent] = [Met::AskedForSegments, Met::SpentBySegments].map(|met| self.of(met));
+        let repaired = self.of(Met::FewLost) + self.of(Met::ManyLost);
+        format!(
+            "network: {arrived} transfers arrived, {lost} lost frames, {in_spite} messages handed over with losses; {segments} segments \
+             lost alone, {asked} requests, {repaired} messages repaired, {spent} given up"
+        )
     }
 }

@@ -2,7 +2,7 @@
 
 use super::{expect, hex, Difference, Given, Pair, Side, Verdict, LARGEST};
 use crate::sender::Frame;
-use rules::calls::{self, Code, ANSWER_BYTES};
+use rules::calls::{Code, ANSWER_BYTES};
 use rules::sender_calls::{read_sender, SENDER_BYTES, TRANSFER_ANSWERS_BYTES};
 use rules::sending::Sender;
 
@@ -161,9 +161,8 @@ impl Pair {
         expect(lent == bytes, || format!("{}: wrote into the frame", name()))?;
         self.stays_in_bounds(name, &record, number)?;
         let given = self.sender_or_receiver_answered(name, (&record, &sender), number)?;
-        if let (Some(before), Some(given)) = (calls::read_record(&record), &given) {
-            let forms = self.watch.frame(&before, id, bytes, given);
-            self.count_forms(forms);
+        if let Some(given) = &given {
+            self.count_frame(&record, id, bytes, given);
         }
         Ok(given)
     }

@@ -5,7 +5,7 @@ use crate::pair::{Pair, Verdict};
 use crate::random::Random;
 use crate::sender::{any_pgn, data_frame, good_max, good_pgn, good_total, identifier, Control, Frame, Line};
 use crate::sender::{CAN_LENGTHS, CONTROL, DATA, MULTI_PG};
-use rules::receiver::{Limits, Receiver, Session};
+use rules::receiver::{Kind, Limits, Receiver, Session};
 
 pub fn run(pair: &mut Pair, random: &mut Random, calls: u64) -> Verdict<()> {
     while pair.tally.calls < calls {
@@ -127,15 +127,9 @@ fn segment(random: &mut Random, state: &Receiver) -> Frame {
         return announcement(random, state);
     };
     let line = if random.once_in(10) { line(random, state.own) } else { line_of(&session) };
-    let next = session.next;
-    let number = match random.below(24) {
-        0 => random.pick(&[0, 1, next.wrapping_sub(1), next / 2]),
-        1 => random.pick(&[next.wrapping_add(1), next | 0x100, next | 0x1_0000, 0xFF_FFFF]),
-        2 => random.pick(&[session.segments, session.segments.wrapping_add(1)]),
-        _ => next,
-    };
+    let number = segment_number(random, &session);
     // The record may be one that no receiver wrote.
-    let before = next.wrapping_sub(1).saturating_mul(60);
+    let before = number.wrapping_sub(1).saturating_mul(60);
     let left = session.total_bytes.saturating_sub(before).min(60) as usize;
     let length = match random.below(8) {
         0 => left.saturating_sub(1),
@@ -152,6 +146,23 @@ fn segment(random: &mut Random, state: &Receiver) -> Frame {
         frame.bytes.truncate(random.pick(&[3, 4, 5, 8, 48, 63]));
     }
     frame
+}
+
+/// Mostly one that can be taken: of an RTS any that is not in, or the last one granted.
+fn segment_number(random: &mut Random, session: &Session) -> u32 {
+    let mut missing = (1..=session.segments.clamp(1, 72)).filter(|&n| !session.taken.has(n));
+    let next = match session.kind {
+        Kind::Bam => session.next,
+        Kind::Rts if random.once_in(4) => session.granted,
+        Kind::Rts if random.once_in(2) => missing.next().unwrap_or(1),
+        Kind::Rts => random.pick(&missing.chain([1]).collect::<Vec<u32>>()),
+    };
+    match random.below(24) {
+        0 => random.pick(&[0, 1, next.wrapping_sub(1), next / 2]),
+        1 => random.pick(&[next.wrapping_add(1), next | 0x100, next | 0x1_0000, 0xFF_FFFF]),
+        2 => random.pick(&[session.segments, session.segments.wrapping_add(1)]),
+        _ => next,
+    }
 }
 
 fn status_or_abort(random: &mut Random, state: &Receiver) -> Frame {

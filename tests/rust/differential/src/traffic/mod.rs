@@ -9,6 +9,7 @@ mod packing;
 mod records;
 mod repeated;
 mod replies;
+mod requested;
 mod sender_records;
 mod sending;
 mod small;
@@ -24,7 +25,7 @@ pub struct Kind {
     pub run: fn(&mut Pair, &mut Random, u64) -> Verdict<()>,
 }
 
-pub const KINDS: [Kind; 24] = [
+pub const KINDS: [Kind; 26] = [
     Kind { name: "valid transfers", calls: 225_000, must_refuse: &[], run: network::valid },
     Kind { name: "interleaved senders", calls: 300_000, must_refuse: &[15, 22], run: network::interleaved },
     Kind {
@@ -94,4 +95,16 @@ pub const KINDS: [Kind; 24] = [
     },
     Kind { name: "node's damaged records", calls: 500_000, must_refuse: &[3, 16, 23, 27], run: node::damaged },
     Kind { name: "records of any wait", calls: 200_000, must_refuse: &[22, 23], run: records::waits },
+    Kind {
+        name: "segments lost and asked for",
+        calls: 600_000,
+        must_refuse: &[15, 16, 17, 18, 19, 20, 21, 22],
+        run: requested::run,
+    },
+    Kind {
+        name: "records of any segments and requests",
+        calls: 300_000,
+        must_refuse: &[16, 18, 19, 20, 21, 22, 23],
+        run: records::requests,
+    },
 ];

@@ -108,11 +108,18 @@ impl Network {
             let frames = if is_hurt { damage(random, frame, &mut held_back) } else { vec![frame] };
             let mut number = 0;
             for frame in frames {
-                number = pair.frame(frame.id, &frame.bytes)?.number();
+                let given = pair.frame(frame.id, &frame.bytes)?;
+                number = given.number();
+                let Line { sa, da, session } = transfer.line;
+                if transfer.is_over() && given.is(Code::Grant) && given.0[2..5] == [sa, da, session] {
+                    transfer.asked(given.word(15), given.0[6]);
+                }
             }
-            // An originator that was refused begins again at once, or goes on for a while as if nothing had been.
+            // An originator that was refused begins again at once, or goes on for a while as if nothing had been. With another PGN it has to
+            // wait for the end of a session that is still open.
             if transfer.is_over() || (number != 0 && random.once_in(2)) {
-                *transfer = Transfer::new(random, transfer.line);
+                let keeps_pgn = !random.once_in(3);
+                *transfer = if keeps_pgn { transfer.anew(random) } else { Transfer::new(random, transfer.line) };
             }
             if random.once_in(self.reading) {
                 let is_silent = random.once_in(8);

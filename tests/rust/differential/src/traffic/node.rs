@@ -85,7 +85,7 @@ fn damage(pair: &mut Pair, random: &mut Random) {
         sender_records::turn_bits(pair, random);
     }
     if which == 2 || which == 7 {
-        pair.sizes.record = random.pick(&[0, 1, 13, 113, 249, 260, 262, 300]);
+        pair.sizes.record = random.pick(&[0, 1, 13, 113, 261, 372, 374, 420]);
     }
     if which == 3 || which == 7 {
         pair.sizes.sender = random.pick(&[0, 1, 9, 112, 114, 160]);
@@ -98,12 +98,14 @@ fn damage(pair: &mut Pair, random: &mut Random) {
     }
 }
 
-/// Of the receiver's record: anywhere, in the second limit, or in the wait of a slot.
+/// Of the receiver's record: anywhere, in the second limit, in the wait of a slot, or in what it keeps of its segments.
 fn turn_bit(pair: &mut Pair, random: &mut Random) {
     let mut record: [u8; RIGHT.record] = pair.record().try_into().expect("of that length");
-    let at = match random.below(4) {
+    let slot = random.below(SLOTS);
+    let at = match random.below(5) {
         0 => random.between(5, 8),
-        1 => records::wait_at(random.below(SLOTS)),
+        1 => records::wait_at(slot),
+        2 => records::segments_at(random, slot),
         _ => random.below(RIGHT.record),
     };
     record[at] ^= 1 << random.below(8);

@@ -3,16 +3,17 @@
 use crate::limits;
 use crate::pair::{expect, Pair, Sizes, Verdict, RIGHT};
 use crate::random::Random;
+use crate::requests::{self, Form};
 use crate::sender::{any_pgn, good_max, good_pgn, good_total};
 use crate::traffic::clock::next_reading;
 use crate::traffic::hostile::any_frame;
 use crate::traffic::small::any_limit;
 use rules::calls::{write_record, RECORD_BYTES};
-use rules::receiver::{Key, Kind, Limits, Receiver, Session, Wait, SLOTS};
+use rules::receiver::{Key, Kind, Limits, Receiver, Session, Taken, Wait, REQUESTS, SLOTS};
 
 /// Where slot `i` starts in a record, and how long it is.
 fn slot_at(i: usize) -> std::ops::Range<usize> {
-    13 + 31 * i..44 + 31 * i
+    13 + 45 * i..58 + 45 * i
 }
 
 /// Where slot `i` has its wait.
@@ -20,19 +21,41 @@ pub fn wait_at(i: usize) -> usize {
     slot_at(i).start + 30
 }
 
+/// Any byte in which slot `i` keeps its next segment or last granted, which segments are in, how many are not, and the requests.
+pub fn segments_at(random: &mut Random, i: usize) -> usize {
+    let in_slot = if random.once_in(3) { random.between(18, 25) } else { random.between(31, 44) };
+    slot_at(i).start + in_slot
+}
+
 /// A few calls on the record that is there, whatever it is.
 fn calls_on(pair: &mut Pair, random: &mut Random) -> Verdict<()> {
     let own = pair.record()[0];
     for _ in 0..random.between(1, 6) {
         let state = pair.state().unwrap_or_else(|| Receiver::open(own, Limits::both(1_250), 0).0);
-        if random.once_in(6) {
-            pair.reading(next_reading(random, &state))?;
-        } else {
-            let frame = any_frame(random, &state);
-            pair.frame(frame.id, &frame.bytes)?;
+        match random.below(8) {
+            0 => drop(pair.reading(next_reading(random, &state))?),
+            1 => drop(pair.missing(any_key(random, &state))?),
+            _ => {
+                let frame = any_frame(random, &state);
+                pair.frame(frame.id, &frame.bytes)?;
+            }
         }
     }
     Ok(())
+}
+
+/// Mostly one that is open, or nearly so.
+fn any_key(random: &mut Random, state: &Receiver) -> Key {
+    let open: Vec<Key> = state.slots.iter().flatten().map(|session| session.key).collect();
+    let any = Key { sa: random.byte(), da: random.pick(&[state.own, 255]), session: random.below(20) as u8 };
+    let mut key = if open.is_empty() || random.once_in(6) { any } else { random.pick(&open) };
+    match random.below(12) {
+        0 => key.sa ^= 1 << random.below(8),
+        1 => key.da = if key.da == 255 { state.own } else { 255 },
+        2 => key.session ^= 1 << random.below(8),
+        _ => {}
+    }
+    key
 }
 
 /// The bytes before slot 0, after a good opening.
@@ -124,31 +147,66 @@ fn session_in_bounds(random: &mut Random, state: &Receiver) -> Session {
     let da = if kind == Kind::Rts { own } else { 255 };
     let total_bytes = good_total(random);
     let segments = total_bytes.div_ceil(60);
-    let any_next = random.between_u32(1, segments + 1);
-    let next = random.pick(&[1, 2.min(segments), segments, segments + 1, any_next]);
-    let latest = next.min(segments);
-    let any_granted = random.between_u32(latest, segments);
-    let (max_segments, granted) = match kind {
-        Kind::Rts => (good_max(random), random.pick(&[latest, segments, any_granted])),
-        Kind::Bam => (random.byte(), random.u32() >> random.below(32)),
-    };
     // Of an RTS each wait goes with any segments taken.
     let wait = if kind == Kind::Rts { random.pick(&[Wait::First, Wait::Second]) } else { Wait::Second };
     let marks = [0, u32::MAX, random.u32(), state.last_reading];
     let silent = random.below(state.limits.in_force(wait) as usize) as u32;
     let mark = if random.once_in(6) { random.pick(&marks) } else { state.last_reading.wrapping_sub(silent) };
-    Session {
+    let session = Session {
         kind,
         key: Key { sa: random.pick(&sas), da, session: random.pick(&[0, 1, 14, 15]) },
         total_bytes,
         segments,
-        max_segments,
+        max_segments: if kind == Kind::Rts { good_max(random) } else { random.byte() },
         pgn: good_pgn(random),
-        next,
-        granted,
+        next: any_number(random),
+        granted: any_number(random),
         mark,
         wait,
+        taken: any_taken(random),
+        missing: any_number(random),
+        requests: random.byte(),
+    };
+    match kind {
+        Kind::Bam => {
+            let any_next = random.between_u32(1, segments + 1);
+            let next = random.pick(&[1, 2.min(segments), segments, segments + 1, any_next]);
+            Session { next, ..session }
+        }
+        Kind::Rts => {
+            let taken = taken_of(random, segments);
+            let any_granted = random.between_u32(1, segments);
+            let granted = random.pick(&[1, segments, any_granted, any_granted]);
+            let requests = random.between(0, REQUESTS.into()) as u8;
+            Session { taken, missing: segments - taken.count(), granted, requests, ..session }
+        }
     }
+}
+
+/// Small as often as large.
+fn any_number(random: &mut Random) -> u32 {
+    random.u32() >> random.below(32)
+}
+
+/// Any 72 bits.
+fn any_taken(random: &mut Random) -> Taken {
+    Taken(u128::from(random.word()) << 8 | u128::from(random.byte()))
+}
+
+/// None, all, all but one or a few, those up to some segment, or any, of so many segments.
+fn taken_of(random: &mut Random, segments: u32) -> Taken {
+    let all = (1 << segments) - 1;
+    let sparse = any_taken(random).0 & any_taken(random).0 & any_taken(random).0;
+    let taken = match random.below(8) {
+        0 => 0,
+        1 => all,
+        2 => !(1 << random.below(segments as usize)),
+        3 => (1 << random.below(segments as usize)) - 1,
+        4 => !sparse,
+        5 => sparse,
+        _ => any_taken(random).0,
+    };
+    Taken(taken & all)
 }
 
 fn break_one_field(random: &mut Random, state: &mut Receiver) {
@@ -158,7 +216,7 @@ fn break_one_field(random: &mut Random, state: &mut Receiver) {
     let doubled = state.slots[random.pick(&open)];
     if let Some(session) = &mut state.slots[at] {
         let is_rts = session.kind == Kind::Rts;
-        match random.below(18) {
+        match random.below(21) {
             0 => session.total_bytes = random.pick(&[0, 4097, 4140, u32::MAX, session.total_bytes + 60]),
             1 => session.segments = random.pick(&[0, session.segments + 1, session.segments - 1, u32::MAX]),
             2 => session.total_bytes = random.pick(&[60 * session.segments, 60 * session.segments - 59]),
@@ -169,7 +227,7 @@ fn break_one_field(random: &mut Random, state: &mut Receiver) {
             7 => session.key.da = random.pick(&[254, if is_rts { 255 } else { own }]),
             8 => session.key.session = random.pick(&[16, 17, 128, 255]),
             9 => session.next = random.pick(&[0, session.segments + 1, session.segments + 2, u32::MAX]),
-            10 => session.granted = random.pick(&[0, session.next.wrapping_sub(1), session.next, u32::MAX]),
+            10 => session.granted = random.pick(&[0, 1, 256, u32::MAX]),
             11 => session.granted = random.pick(&[session.segments, session.segments + 1]),
             12 => session.kind = if is_rts { Kind::Bam } else { Kind::Rts },
             13 => state.limits.first = random.pick(&[0, 60_001, u32::MAX, 65_536]),
@@ -177,6 +235,9 @@ fn break_one_field(random: &mut Random, state: &mut Receiver) {
             // Out of bounds in a broadcast.
             15 => session.wait = if session.wait == Wait::First { Wait::Second } else { Wait::First },
             16 => state.own = random.pick(&[254, 255, own.wrapping_add(1)]),
+            17 => session.taken.0 ^= 1 << random.below(72),
+            18 => session.missing = random.pick(&[0, session.missing ^ 1, session.segments, u32::MAX]),
+            19 => session.requests = random.pick(&[0, 5, 6, 7, 255]),
             _ => {
                 let other = random.below(SLOTS);
                 if other != at {
@@ -224,6 +285,92 @@ fn wait_of(random: &mut Random, state: &Receiver, slot: usize, byte: u8) -> (u32
     }
 }
 
+/// Records in bounds, then with one thing of those that 02 E6 brought changed in one slot: what is 23, and how many are missing by it.
+pub fn requests(pair: &mut Pair, random: &mut Random, calls: u64) -> Verdict<()> {
+    while pair.tally.calls < calls {
+        let mut state = in_bounds(random);
+        let open: Vec<usize> = (0..SLOTS).filter(|&i| state.slots[i].is_some()).collect();
+        let slot = random.pick(&open);
+        let Some((session, form, is_good)) = state.slots[slot].and_then(|session| changed(random, session)) else {
+            continue;
+        };
+        state.slots[slot] = Some(session);
+        set_state(pair, random, &state);
+        pair.count_requests(vec![form]);
+        let due = match session.kind {
+            _ if !is_good => 256 * 23,
+            Kind::Rts => session.segments - session.taken.count(),
+            Kind::Bam => session.segments + 1 - session.next,
+        };
+        let missing = pair.missing(session.key)?;
+        expect(missing == due as usize, || format!("{form:?} in slot {slot} of {state:?}: {missing} missing"))?;
+        calls_on(pair, random)?;
+        turn_bits(pair, random, slot);
+        calls_on(pair, random)?;
+    }
+    requests::met_by_records(&pair.tally.requests)
+}
+
+/// The session changed, and whether it is in bounds; none where it has nothing of the kind that was drawn.
+fn changed(random: &mut Random, mut session: Session) -> Option<(Session, Form, bool)> {
+    let Session { segments, missing, granted, .. } = session;
+    if session.kind == Kind::Bam {
+        let (taken, missing, requests) = (any_taken(random), any_number(random), random.byte());
+        let session = Session { granted: any_number(random), taken, missing, requests, ..session };
+        return Some((session, Form::AnyOfBroadcast, true));
+    }
+    let past = 1 << random.between(segments as usize, 71);
+    let within = 1 << random.below(segments as usize);
+    let recounted = if session.taken.0 & within == 0 { missing.wrapping_sub(1) } else { missing + 1 };
+    let behind = (1..=segments).rev().find(|&n| session.taken.has(n));
+    let (form, is_good) = random.pick(&[
+        (Form::BitPast, false),
+        (Form::BitPastCounted, false),
+        (Form::BitTurned, false),
+        (Form::BitTurnedCounted, true),
+        (Form::OneMoreMissing, false),
+        (Form::OneLessMissing, false),
+        (Form::OtherMissing, false),
+        (Form::FiveRequests, true),
+        (Form::SixRequests, false),
+        (Form::OtherRequests, false),
+        (Form::GrantedNone, false),
+        (Form::GrantedFirst, true),
+        (Form::GrantedAll, true),
+        (Form::GrantedPast, false),
+        (Form::GrantedBehind, true),
+        (Form::AnyNext, true),
+    ]);
+    match form {
+        Form::BitPast => session.taken.0 |= past,
+        Form::BitPastCounted => (session.taken.0, session.missing) = (session.taken.0 | past, missing.checked_sub(1)?),
+        Form::BitTurned => session.taken.0 ^= within,
+        Form::BitTurnedCounted => (session.taken.0, session.missing) = (session.taken.0 ^ within, recounted),
+        Form::OneMoreMissing => session.missing = missing + 1,
+        Form::OneLessMissing => session.missing = missing.wrapping_sub(1),
+        Form::OtherMissing => session.missing = missing ^ 1 << random.below(32),
+        Form::FiveRequests => session.requests = 5,
+        Form::SixRequests => session.requests = 6,
+        Form::OtherRequests => session.requests = random.between(7, 255) as u8,
+        Form::GrantedNone => session.granted = 0,
+        Form::GrantedFirst => session.granted = 1,
+        Form::GrantedAll => session.granted = segments,
+        Form::GrantedPast => session.granted = random.pick(&[segments + 1, segments + 256, granted | 1 << 31]),
+        Form::GrantedBehind => session.granted = behind?,
+        _ => session.next = any_number(random),
+    }
+    Some((session, form, is_good))
+}
+
+/// One bit or two, of what a slot keeps of its segments.
+fn turn_bits(pair: &mut Pair, random: &mut Random, slot: usize) {
+    let mut record: [u8; RECORD_BYTES] = pair.record().try_into().expect("of that length");
+    for _ in 0..random.between(1, 2) {
+        record[segments_at(random, slot)] ^= 1 << random.below(8);
+    }
+    pair.set_record(&record);
+}
+
 /// Any of the lent buffers too short or too long, on records that are good otherwise.
 pub fn other_lengths(pair: &mut Pair, random: &mut Random, calls: u64) -> Verdict<()> {
     while pair.tally.calls < calls {
@@ -235,6 +382,7 @@ pub fn other_lengths(pair: &mut Pair, random: &mut Random, calls: u64) -> Verdic
             pair.frame_raw(frame.id, &frame.bytes)?;
             pair.reading(next_reading(random, &state))?;
             pair.groups(&frame.bytes)?;
+            pair.missing(any_key(random, &state))?;
             pair.open(random.byte(), limits::two(random, any_limit), random.u32())?;
             pair.sizes = RIGHT;
             set_state(pair, random, &state);
@@ -249,7 +397,7 @@ fn other_sizes(random: &mut Random) -> Sizes {
     let mut sizes = RIGHT;
     let which = random.below(6);
     if which == 0 || which == 5 {
-        sizes.record = random.pick(&[0, 1, 13, 44, 230, 249, 260, 262, 292, 300]);
+        sizes.record = random.pick(&[0, 1, 13, 58, 261, 328, 372, 374, 418, 420]);
     }
     if which == 1 || which == 5 {
         sizes.store = random.pick(&[0, 1, 4096, 28_672, 32_767, 32_769, 36_864]);

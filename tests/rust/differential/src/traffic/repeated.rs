@@ -16,13 +16,15 @@ struct Originator {
     transfer: Transfer,
     /// None where its session is not open.
     silence: Option<Silence>,
+    /// How often all of its segments were asked for (02 E6).
+    asked: u8,
 }
 
 /// What the receiver was opened with, and its last reading.
 #[derive(Clone, Copy)]
-struct Clock {
-    limits: Limits,
-    last: u32,
+pub struct Clock {
+    pub limits: Limits,
+    pub last: u32,
 }
 
 pub fn run(pair: &mut Pair, random: &mut Random, calls: u64) -> Verdict<()> {
@@ -39,7 +41,8 @@ pub fn run(pair: &mut Pair, random: &mut Random, calls: u64) -> Verdict<()> {
             let is_full = originators.iter().filter(|originator| originator.silence.is_some()).count() == 8;
             originators[random.below(lines)].turn(pair, random, clock, is_full)?;
             if random.once_in(5) {
-                clock.last = clock.last.wrapping_add(passed(random, &originators, clock));
+                let open: Vec<Silence> = originators.iter().filter_map(|originator| originator.silence).collect();
+                clock.last = clock.last.wrapping_add(passed(random, &open, clock));
                 reading(pair, &mut originators, clock.last)?;
             }
         }
@@ -49,33 +52,36 @@ pub fn run(pair: &mut Pair, random: &mut Random, calls: u64) -> Verdict<()> {
 }
 
 /// Mostly a little; else to where the silence of one that is open has just run out, or has just not.
-fn passed(random: &mut Random, originators: &[Originator], clock: Clock) -> u32 {
-    let open: Vec<Silence> = originators.iter().filter_map(|originator| originator.silence).collect();
+pub fn passed(random: &mut Random, open: &[Silence], clock: Clock) -> u32 {
     if open.is_empty() || !random.once_in(6) {
         return random.below(limits::shorter(clock.limits) as usize / 3) as u32;
     }
-    random.pick(&open).slack(clock.last) + u32::from(random.once_in(2))
+    random.pick(open).slack(clock.last) + u32::from(random.once_in(2))
 }
 
 fn reading(pair: &mut Pair, originators: &mut [Originator], reading: u32) -> Verdict<()> {
     let (_, endings) = pair.reading(reading)?;
     for originator in originators {
-        let Some(silence) = originator.silence else {
-            continue;
-        };
-        let Line { sa, da, session } = originator.transfer.line;
-        let has_ended = endings.iter().any(|given| given.number() == 22 && given.0[2..5] == [sa, da, session]);
-        let told =
-            || format!("reading {reading}: {sa} {da} {session} ended: {has_ended}, by its reckoning {silence:?}");
-        expect(has_ended == silence.has_run_out(reading), told)?;
-        originator.silence = (!has_ended).then_some(silence);
+        if let Some(silence) = originator.silence {
+            let goes_on = outlives(&endings, originator.transfer.line, silence, reading)?;
+            originator.silence = goes_on.then_some(silence);
+        }
     }
     Ok(())
 }
 
+/// Whether the session of this line goes on after a reading, as its silence has it.
+pub fn outlives(endings: &[Given], line: Line, silence: Silence, reading: u32) -> Verdict<bool> {
+    let Line { sa, da, session } = line;
+    let has_ended = endings.iter().any(|given| given.number() == 22 && given.0[2..5] == [sa, da, session]);
+    let told = || format!("reading {reading}: {sa} {da} {session} ended: {has_ended}, by its reckoning {silence:?}");
+    expect(has_ended == silence.has_run_out(reading), told)?;
+    Ok(!has_ended)
+}
+
 impl Originator {
     fn new(random: &mut Random, line: Line) -> Originator {
-        Originator { transfer: Transfer::new(random, line), silence: None }
+        Originator { transfer: Transfer::new(random, line), silence: None, asked: 0 }
     }
 
     /// Mostly the transfer goes on; where all segments are in, an announcement is as likely as the end.
@@ -88,7 +94,7 @@ impl Originator {
             0 | 1 if self.transfer.is_rts => self.restart(pair, random, clock),
             0..=2 => self.key_is_open(pair, random),
             3 => self.bad_form(pair, random),
-            4 | 5 if self.transfer.made == 1 => self.end_at_once(pair, random),
+            4 | 5 if self.transfer.made == 1 => self.end_at_once(pair, random, clock),
             6 => self.bad_segment(pair, random),
             _ => self.go_on(pair, random, clock),
         }
@@ -100,7 +106,7 @@ impl Originator {
     }
 
     fn announce(&mut self, pair: &mut Pair, random: &mut Random, clock: Clock, is_full: bool) -> Verdict<()> {
-        self.transfer = Transfer::new(random, self.transfer.line);
+        (self.transfer, self.asked) = (Transfer::new(random, self.transfer.line), 0);
         let Frame { id, bytes } = self.transfer.next(random);
         let given = pair.frame(id, &bytes)?;
         let number = given.number();
@@ -113,7 +119,7 @@ impl Originator {
 
     fn restart(&mut self, pair: &mut Pair, random: &mut Random, clock: Clock) -> Verdict<()> {
         let (slot, store) = (self.slot(pair), pair.store().to_vec());
-        self.transfer = self.transfer.anew(random);
+        (self.transfer, self.asked) = (self.transfer.anew(random), 0);
         let Frame { id, bytes } = self.transfer.next(random);
         let given = pair.frame(id, &bytes)?;
         expect(self.is_cts(&given), || format!("a repeated RTS was answered by {:02X?}", given.0))?;
@@ -205,12 +211,16 @@ impl Originator {
         Ok(given)
     }
 
-    /// EOMS with nothing taken since the announcement.
-    fn end_at_once(&mut self, pair: &mut Pair, random: &mut Random) -> Verdict<()> {
+    /// EOMS with nothing taken since the announcement: an RTS is asked for its segments from 1 on, a broadcast ends.
+    fn end_at_once(&mut self, pair: &mut Pair, random: &mut Random, clock: Clock) -> Verdict<()> {
         let Frame { id, bytes } = self.transfer.status().frame(random, self.transfer.line);
-        let number = pair.frame(id, &bytes)?.number();
-        self.silence = None;
-        expect(number == 21, || format!("an end with nothing taken was answered by {number}"))
+        let given = pair.frame(id, &bytes)?;
+        let goes_on = self.transfer.is_rts && self.asked < 5;
+        let is_right = if goes_on { self.is_cts(&given) } else { given.number() == 21 };
+        expect(is_right, || format!("an end with nothing taken was answered by {:02X?}", given.0))?;
+        self.asked += 1;
+        self.silence = goes_on.then(|| Silence::after(&given, clock.last, clock.limits));
+        Ok(())
     }
 
     fn go_on(&mut self, pair: &mut Pair, random: &mut Random, clock: Clock) -> Verdict<()> {

@@ -37,7 +37,7 @@ pub fn lengths_and_openings(pair: &mut Pair, random: &mut Random, calls: u64) ->
     }
     while pair.tally.calls < calls {
         pair.least_length(random.word() as usize >> random.below(64))?;
-        pair.sizes.record = if random.once_in(4) { random.below(300) } else { RIGHT.record };
+        pair.sizes.record = if random.once_in(4) { random.below(420) } else { RIGHT.record };
         pair.open(random.byte(), limits::two(random, any_limit), random.u32())?;
         pair.sizes = RIGHT;
     }

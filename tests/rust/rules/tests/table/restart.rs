@@ -46,7 +46,7 @@ impl Announced {
 
     fn ended(&self, refusal: Refusal) -> Ending {
         let kind = if self.control == 0 { Kind::Rts } else { Kind::Bam };
-        Ending { key: self.key, kind, pgn: self.pgn, refusal }
+        Ending { key: self.key, kind, pgn: self.pgn, refusal, is_spent: false }
     }
 }
 
@@ -181,7 +181,7 @@ fn with_eight_open() {
         let before = bench.clone();
         assert_eq!(bench.announce(&again), again.grant(3));
         let session = bench.receiver.slots[slot].unwrap();
-        assert_eq!((session.key, session.total_bytes, session.next, session.granted), (a.key, 130, 1, 3));
+        assert_eq!((session.key, session.total_bytes, session.missing, session.granted), (a.key, 130, 3, 3));
         // Nothing else has moved.
         bench.receiver.slots[slot] = before.receiver.slots[slot];
         assert!(bench == before);
@@ -260,19 +260,20 @@ fn a_bam_beside_it() {
     for _ in 0..2 {
         assert_eq!(bench.announce(&one), one.grant(4));
         assert_eq!((bench.receiver.slots[0], bench.receiver.slots[2]), (broadcast, None));
-        assert_eq!(bench.receiver.slots[1].unwrap().next, 1);
+        assert_eq!(bench.receiver.missing(KEY), Ok(4));
         bench.take(&one, 1..=2, 0x22);
     }
 }
 
+/// What was in before the restart is asked for again (02 E6).
 #[test]
-fn after_all_segments_the_end_is_21() {
-    for again in [rts(KEY, 120, 255), rts(KEY, 61, 255), rts(KEY, 4_096, 1)] {
+fn after_all_segments_the_end_asks_for_all() {
+    for (again, count) in [(rts(KEY, 120, 255), 2), (rts(KEY, 61, 255), 2), (rts(KEY, 4_096, 1), 1)] {
         let first = rts(KEY, 120, 255);
         let mut bench = Bench::with(&first, 2);
-        assert_eq!(bench.announce(&again).number(), 0);
-        assert_eq!(bench.status(&again), Answer::Ended(again.ended(Refusal::EndNotAsAnnounced)), "{again:?}");
-        assert_eq!(bench.receiver, Bench::new().receiver);
+        assert_eq!(bench.announce(&again), again.grant(count));
+        assert_eq!(bench.status(&again), again.grant(count), "{again:?}");
+        assert_eq!(bench.receiver.missing(KEY), Ok(again.segments), "{again:?}");
     }
 }
 
@@ -345,17 +346,20 @@ fn only_what_came_after_is_handed_over() {
     assert!(slot[..61] == [0x22; 61] && slot[61..180] == [0x11; 119] && slot[180..] == [FORMER; SLOT_BYTES - 180]);
 }
 
-/// The rest of what was under way is not taken for what begins.
+/// Each is taken once more, those that were in and those that were not.
 #[test]
 fn segments_count_from_1_again() {
     let (first, again) = (rts(KEY, 600, 255), rts(KEY, 900, 255));
     let mut bench = Bench::with(&first, 3);
     assert_eq!(bench.announce(&again), again.grant(15));
-    for late in [2, 4] {
-        let ended = Answer::Ended(again.ended(Refusal::SegmentOutOfSequence));
-        assert_eq!(bench.clone().segment(KEY, late, 0x11), ended);
+    for (number, missing) in [(1, 14), (3, 13), (4, 12)] {
+        assert_eq!(bench.segment(KEY, number, 0x22), Answer::Taken { key: KEY, segment: number });
+        assert_eq!(bench.segment(KEY, number, 0x33), Answer::Refused(Refusal::SegmentAlreadyTaken));
+        assert_eq!(bench.receiver.missing(KEY), Ok(missing));
     }
-    assert_eq!(bench.segment(KEY, 1, 0x22), Answer::Taken { key: KEY, segment: 1 });
-    assert_eq!(bench.segment(KEY, 1, 0x33), Answer::Refused(Refusal::SegmentAlreadyTaken));
-    assert_eq!(bench.store[..180], [[0x22; 60], [0x11; 60], [0x11; 60]].concat());
+    assert_eq!(bench.store[..240], [[0x22; 60], [0x11; 60], [0x22; 60], [0x22; 60]].concat());
+    // Past the new end, though not past the former.
+    let last = rts(KEY, 120, 255);
+    assert_eq!(bench.announce(&last), last.grant(2));
+    assert_eq!(bench.segment(KEY, 3, 0x22), Answer::Ended(last.ended(Refusal::SegmentOutOfSequence)));
 }
