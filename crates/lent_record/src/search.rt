@@ -42,17 +42,20 @@ fn holds_key(bytes: &[u8], at: usize, k: Key) -> bool
     (bytes[at + DA_AT] == k.da.0) & (bytes[at + SESSION_AT] == k.session.0)
 }
 
-// Whether a slot before slot i has the key open.
+// Whether a slot before slot i has the key open. Bounded by the number of slots, the loop is laid out flat.
 pub fn any_before(bytes: &[u8], i: usize, k: Key) -> bool
     requires { ⌜ (length (now bytes) ≡ recordLength) × (i ≤ 8) ⌝ }
     ensures { λ r. ⌜ r ≡ anyHolds k (slotsBefore (now (bytes .entry)) i) ⌝ }
 {
-    let mut j = i;
-    while 0 < j {
-        j = j - 1;
+    let mut j: usize = 0;
+    while j < SLOTS {
+        if j == i {
+            return false;
+        }
         if holds_key(bytes, HEAD_BYTES + SLOT_BYTES * j, k) {
             return true;
         }
+        j = j + 1;
     }
     false
 }

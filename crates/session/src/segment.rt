@@ -1,6 +1,9 @@
 // A segment judged, and the session brought forward by it (01, "Segment"; 02, E6).
 ghost use mathlib.Core.Path.{_≡_};
+ghost use mathlib.Core.Bool.{cond};
 ghost use Prim.Native.Nat.{_<_};
+ghost use Rattle.frame.specs.declared.refusal.Refusal.the-variants.{AlreadyTaken, OutOfSequence};
+ghost use Rattle.session.specs.declared.segment.Judged.the-variants.{Refused, Ends};
 ghost use Rattle.session.specs.Segments.{dueOf, alreadyIn, outOfTurn, judgedOf, nextCts};
 ghost use Rattle.session.specs.Decisions.{taken, segmentOpen, segmentTo};
 use super::Change;
@@ -64,26 +67,34 @@ fn is_out_of_turn(s: Session, n: SegmentNumber) -> bool
     s.progress.next.0 < n.0
 }
 
-// A segment judged by its number and by the bytes that the frame has for data: 18, 19, 20.
-fn judge_segment(s: Session, n: SegmentNumber, room: usize) -> Judged
-    ensures { λ r. ⌜ r ≡ judgedOf s (n .0) room ⌝ }
+// A segment judged by its turn, 18 or 19; else as given.
+fn judge_turn(s: Session, n: SegmentNumber, otherwise: Judged) -> Judged
+    ensures { λ r. ⌜ r ≡ cond (alreadyIn s (n .0)) (Refused AlreadyTaken) (cond (outOfTurn s (n .0)) (Ends OutOfSequence) otherwise) ⌝ }
 {
-    if n.0 == 0 {
-        return Judged::Refused(Refusal::AlreadyTaken);
-    }
     if is_already_in(s, n) {
         return Judged::Refused(Refusal::AlreadyTaken);
     }
     if is_out_of_turn(s, n) {
         return Judged::Ends(Refusal::OutOfSequence);
     }
+    otherwise
+}
+
+// A segment judged by its number and by the bytes that the frame has for data: 18, 19, 20. Count and length are looked at first and
+// answer last: so the kind is asked next to where the segment is taken, which asks it too.
+fn judge_segment(s: Session, n: SegmentNumber, room: usize) -> Judged
+    ensures { λ r. ⌜ r ≡ judgedOf s (n .0) room ⌝ }
+{
+    if n.0 == 0 {
+        return Judged::Refused(Refusal::AlreadyTaken);
+    }
     if s.announced.segments.0 < n.0 {
-        return Judged::Ends(Refusal::OutOfSequence);
+        return judge_turn(s, n, Judged::Ends(Refusal::OutOfSequence));
     }
     if room < due(s.announced.total, n) as usize {
-        return Judged::Refused(Refusal::SegmentCut);
+        return judge_turn(s, n, Judged::Refused(Refusal::SegmentCut));
     }
-    Judged::Takes
+    judge_turn(s, n, Judged::Takes)
 }
 
 // The CTS after segment n. A segment number is read off three bytes.
