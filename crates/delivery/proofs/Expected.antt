@@ -10,7 +10,6 @@ use native.Mathlib.Omega.{arith}
 use native.Mathlib.Decide.{ℕ-discrete}
 use lib.Dec.{eqb}
 use lib.ListN.{length, take}
-use lib.Seq.{take-all}
 use borrow.Author.Tests.{eqb-true, eq-eqb, ne-eqb, le-ltb, lt-ltb}
 use Rattle.progress.specs.declared.wait.Wait.{Wait}
 use Rattle.progress.specs.declared.wait.Wait.the-variants.{First, Second}
@@ -27,10 +26,10 @@ use Rattle.isolation.specs.OwnFrames.{keyAt, isRts, announce}
 use Rattle.isolation.specs.Replies.{Wire, Says, Reply, handed, opened, took, ended, refuse, ending, sent, cts, plain, handOver}
 use Rattle.isolation.specs.Rules.{Piece, Open, joined, misdirected, badNumbers, opens, admitted, announced, due, spent, adds, outOfTurn, segmentOpen, asAnnounced, lacks, statusOpen, rule}
 use Rattle.isolation.proofs.Same.{pgn-same, sixties-same, grant-same, due-same}
-use Rattle.isolation.proofs.Pieces.{cut, length-cut, taken-same, joined-cut}
 use Rattle.delivery.specs.Link.{Setting, keyIn, offer, byBody, received}
 use Rattle.delivery.specs.Arrival.{Fair}
 use Rattle.delivery.specs.Losses.{toAnswer}
+use Rattle.delivery.proofs.InSequence.{cut, length-cut, taken-same, joined-cut}
 use Rattle.delivery.proofs.Wires.{frameOf, eomaWire, few-segments, reads-for, on-offer, on-status, on-segment, data-taken, data-long}
 
 -- ---- the segments of the message; its kind, by its destination
@@ -194,7 +193,7 @@ module _ (s : Setting) (fair : Fair s) (last : ℕ) (q : Silence) (j g : ℕ) (l
 
 joined-all : (m : List ℕ) → joined (segmentsOf (length m)) (cut (length m) (segmentsOf (length m)) m) ≡ m
 unfolding segmentsOf
-joined-all m = joined-cut (length m) (segmentsOf (length m)) m refl ∙ take-all (length m) m (omega arith)
+joined-all m = joined-cut (segmentsOf (length m)) m refl
 
 -- the message is handed over, and an EOMA goes out for an RTS
 abbrev pub handedBy : Kind → Setting → Says

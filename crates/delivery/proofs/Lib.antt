@@ -1,4 +1,5 @@
 pub mod Wires
+pub mod InSequence
 pub mod Expected
 pub mod Sending
 pub mod Stages
