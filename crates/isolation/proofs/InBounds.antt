@@ -2,11 +2,11 @@
 use Prim.Native.Nat.{ℕ, zero, suc, _+_, _*_, _-_, _/_, _≤_, _<_}
 use mathlib.Core.Path.{_≡_, refl, sym, ap, ap₂, _∙_, subst}
 use mathlib.Core.Bool.{Bool, true, false, cond, not, _&&_, _||_, and-false}
-use mathlib.Core.Option.{none, some}
+use mathlib.Core.Option.{none}
 use mathlib.Core.List.{List, [], _∷_}
 use native.Mathlib.Omega.{arith}
 use native.Mathlib.Decide.{ℕ-discrete}
-use lib.Dec.{eqb, leb}
+use lib.Dec.{leb}
 use lib.ListN.{length, take, drop}
 use lib.Seq.{take-take, drop-drop}
 use borrow.Author.Tests.{eq-eqb, ne-eqb, leb-true, leb-false, le-leb, lt-leb, le-ltb, not-true}
@@ -30,7 +30,7 @@ use Rattle.session.specs.InBounds.{Sound, sound-of}
 use Rattle.slots.specs.Bounds.{valuesOk, slotOk, anyHolds, stateTwin, twinOf, slotsOk}
 use Rattle.receiver.specs.Bounds.{inBounds}
 use Rattle.isolation.specs.OwnFrames.{keyAt}
-use Rattle.isolation.specs.Rules.{Values, Open, Piece, isTaken, due}
+use Rattle.isolation.specs.Rules.{Values, Open, isTaken, due}
 use Rattle.isolation.specs.World.{World}
 use Rattle.isolation.specs.Observe.{openIn}
 use Rattle.isolation.specs.Stands.{valuesOf, piecesOf, openOf, standsFor}

@@ -1,12 +1,12 @@
 -- A message is handed over once, and is exactly its Total Bytes: a theorem on the rules of one session.
 use Prim.Native.Nat.{ℕ, zero, suc, _+_, _*_, _-_, _/_, _≤_, min}
-use mathlib.Core.Path.{_≡_, refl, sym, ap, _∙_}
+use mathlib.Core.Path.{_≡_, refl, ap, _∙_}
 use mathlib.Core.Bool.{Bool, true, false, cond, not, _&&_, _||_}
 use mathlib.Core.Option.{Option, none, some}
 use mathlib.Core.List.{List, [], _∷_}
 use native.Mathlib.Omega.{arith}
 use lib.Dec.{eqb, ltb}
-use lib.ListN.{length, take, length-take, length-append}
+use lib.ListN.{length, length-take, length-append}
 use borrow.Author.Tests.{ltb-false, eqb-true, eqb-false, not-false}
 use Rattle.isolation.specs.Standard.{Cause}
 use Rattle.transport.specs.declared.announcement.Announcement.{Announcement}
@@ -17,7 +17,7 @@ use Rattle.isolation.specs.Replies as P
 use Rattle.isolation.specs.Rules as R
 use Rattle.isolation.specs.OwnFrames.{Body, announce, segment, status, abort}
 use Rattle.isolation.specs.Replies.{Reply, Says, nothing, reject, ending, cts, handOver}
-use Rattle.isolation.specs.Rules.{Values, Open, Out, State, Piece, outOfTurn, closes, opens, announced, due, sixties, spent, adds, asAnnounced, asks, lacks, segmentOpen, statusOpen, abortOpen, rule, ifOpen, joined, pieceAt, isTaken, isOpen, Input, mine, now, nextState, fresh}
+use Rattle.isolation.specs.Rules.{Values, Open, Out, State, Piece, outOfTurn, opens, announced, due, sixties, spent, adds, asAnnounced, asks, lacks, segmentOpen, statusOpen, abortOpen, rule, ifOpen, joined, pieceAt, isTaken, isOpen, Input, mine, now, nextState, fresh}
 use Rattle.isolation.specs.World.{after}
 use Rattle.isolation.proofs.Tests.{or-false, clash, either-way, or-left, or-right}
 use Rattle.isolation.proofs.Same.{sixties-same, due-same}

@@ -1,17 +1,16 @@
 -- The receiver's record of segments, and its next segment, say the same as the rules' data taken: how many are missing, which is the first,
 -- and how many are missing in a row.
 use Prim.Native.Nat.{ℕ, zero, suc, _+_, _-_, _≤_, _<_, min}
-use mathlib.Core.Path.{_≡_, refl, sym, ap, ap₂, _∙_}
+use mathlib.Core.Path.{_≡_, refl, sym, ap, _∙_}
 use mathlib.Core.Bool.{Bool, true, false, cond}
 use mathlib.Core.List.{List}
 use native.Mathlib.Omega.{arith}
-use lib.Dec.{eqb, leb, ltb}
-use lib.ListN.{length}
+use lib.Dec.{ltb}
 use native.Mathlib.Decide.{decLt}
 use borrow.Author.Tests.{le-leb, lt-ltb, le-ltb}
 use Rattle.segments.specs.declared.Segments.{Segments}
 use Rattle.segments.specs.Model as segments
-use Rattle.segments.specs.Model.{isIn, missingOf, firstFrom, runFrom, runOf}
+use Rattle.segments.specs.Model.{isIn, missingOf, firstFrom, runFrom}
 use Rattle.progress.specs.Forward.{grantOf}
 use Rattle.progress.specs.Requests.{askedCount}
 use Rattle.isolation.specs.Rules as R

@@ -22,7 +22,6 @@ use Rattle.transport.specs.Kinds.{isRts}
 use Rattle.transport.specs.declared.Key.{Key}
 use Rattle.transport.specs.declared.announcement.Announcement.{Announcement}
 use Rattle.transport.specs.declared.eoms.Status.{Status}
-use Rattle.transport.specs.declared.segment.Segment.{Segment}
 use Rattle.transport.specs.Segments.{dataAt}
 use Rattle.answer.specs.declared.Answer.{Answer}
 use Rattle.answer.specs.declared.Answer.the-variants as answer
@@ -61,7 +60,7 @@ use Rattle.isolation.specs.Replies as P
 use Rattle.isolation.specs.Rules as R
 use Rattle.isolation.specs.OwnFrames.{keyAt, Body, announce, segment, status, abort}
 use Rattle.isolation.specs.Replies.{Reply, reject, refuse, abortFrame, ending, cts, plain, sent, handOver, handed}
-use Rattle.isolation.specs.Rules.{Values, Open, Out, Piece, closes, opens, startsAnew, admitted, announced, grant, due, spent, adds, asAnnounced, missingRun, rule, joined, isTaken}
+use Rattle.isolation.specs.Rules.{Values, Open, Out, closes, opens, startsAnew, admitted, announced, grant, due, spent, adds, asAnnounced, missingRun, rule, joined, isTaken}
 use Rattle.isolation.specs.Observe.{saysOf, replyOf, touches}
 use Rattle.isolation.proofs.Tests.{or-left, or-right, or-1, or-2, or-either, same-test}
 use Rattle.isolation.proofs.Slots.{other-key}
@@ -70,7 +69,7 @@ use Rattle.isolation.proofs.Same.{refusalFor, number-same, reason-same,
 use Rattle.isolation.proofs.Pieces.{segment-inside}
 use Rattle.isolation.proofs.Gathered.{Gathered, inTo, in-length, joined-gathered, gathered-more}
 use Rattle.isolation.proofs.Recorded.{missing-rest, asked-first, asked-same, below-next}
-use Rattle.isolation.proofs.Fit.{Kept, recordOf, Rel, InSlot, Tied, walk, walk-not, reply-cond, quiet-cond, wire-cond}
+use Rattle.isolation.proofs.Fit.{Kept, recordOf, Rel, Tied, walk, walk-not, reply-cond, quiet-cond, wire-cond}
 
 -- an own frame's key: addresses that are taken here
 pub record Mine (v : Values) (k : ℕ) : Type 0 where

@@ -1,8 +1,7 @@
 -- The slots as a list: what the searches find.
 use Prim.Native.Nat.{ℕ, zero, suc, _+_, _*_, _<_, suc-le-suc}
 use mathlib.Core.Path.{_≡_, refl, sym, ap, _∙_}
-use mathlib.Core.Logic.{_⊎_, inl, inr}
-use mathlib.Core.Bool.{Bool, true, false, cond, _&&_}
+use mathlib.Core.Bool.{Bool, true, false, _&&_}
 use mathlib.Core.List.{List, [], _∷_}
 use native.Mathlib.Omega.{arith}
 use lib.Dec.{eqb}
@@ -13,9 +12,8 @@ use Rattle.session.specs.declared.Session.{Session}
 use Rattle.slots.specs.declared.Slot.{Slot}
 use Rattle.session.specs.declared.State.{State}
 use Rattle.session.specs.declared.State.the-variants.{Closed, Open}
-use Rattle.slots.specs.declared.Found.{Found}
 use Rattle.slots.specs.declared.Found.the-variants.{At, Nothing}
-use Rattle.slots.specs.Slots.{sameKey, freeState, isFree, stateHolds, holdsKey, firstAt, firstFree, keyPlace, freeSlot}
+use Rattle.slots.specs.Slots.{sameKey, stateHolds, holdsKey, keyPlace, freeSlot}
 use Rattle.slots.specs.Searches.{first-some, from-none}
 use Rattle.isolation.specs.OwnFrames.{keyAt}
 use Rattle.isolation.specs.Observe.{openAt}

@@ -4,7 +4,7 @@ use native.Mathlib.Omega.{arith}
 use mathlib.Core.Path.{_≡_, ap₂, _∙_}
 use mathlib.Core.List.{List, []}
 use Rattle.words.specs.Words.{low4, low32}
-use Rattle.words.specs.Laws.{fourBytes, low32-read-back}
+use Rattle.words.specs.Laws.{low32-read-back}
 
 -- the number that eight bytes make
 abbrev pub low64 : List ℕ → ℕ → ℕ

@@ -9,7 +9,7 @@ use Rattle.transport.specs.declared.eoms.Status.{Status}
 use Rattle.session.specs.declared.Session.{Session}
 use Rattle.session.specs.declared.Step.{Step}
 use Rattle.session.specs.Ends.{statusMatches, allIn}
-use Rattle.session.specs.Decisions.{ended, handsOver, asks, lacks, statusOpen}
+use Rattle.session.specs.Decisions.{ended, handsOver, asks, statusOpen}
 
 module _ (P : Step → Type 0) (s : Session) (slot : ℕ) (st : Status) (last : ℕ)
     (unlike : P (ended s StatusMismatch))

@@ -16,7 +16,6 @@ use Rattle.transport.specs.declared.eoms.Status.{Status}
 use Rattle.transport.specs.declared.segment.Segment.{Segment}
 use Rattle.answer.specs.declared.Answer.{Answer}
 use Rattle.answer.specs.declared.Answer.the-variants as answer
-use Rattle.answer.specs.declared.Message.{Message}
 use Rattle.answer.specs.Answers.{answerNumber}
 use Rattle.progress.specs.Forward.{ctsDue, advancedBy}
 use Rattle.session.specs.declared.Session.{Session}

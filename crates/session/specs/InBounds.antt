@@ -1,8 +1,7 @@
 -- A session stays in bounds, whatever it decides: 01, "Numbered refusals". Nothing here needs to be believed.
 use Prim.Native.Nat.{ℕ, _≤_}
 use mathlib.Core.Path.{_≡_, refl, sym, ap, _∙_}
-use mathlib.Core.Logic.{_⊎_, inl, inr}
-use mathlib.Core.Bool.{Bool, true, false, cond, not, _||_, false≢true}
+use mathlib.Core.Bool.{Bool, true, false, cond, not, _||_}
 use mathlib.Core.List.{[], _∷_}
 use lib.Dec.{eqb, leb, ltb}
 use borrow.Author.Tests.{le-leb, eqb-false, ltb-true, not-false}
@@ -15,7 +14,6 @@ use Rattle.transport.specs.declared.Kind.{Kind}
 use Rattle.transport.specs.declared.Kind.the-variants.{Rts, Bam}
 use Rattle.transport.specs.declared.announcement.Announcement.{Announcement}
 use Rattle.progress.specs.declared.Announced.{Announced}
-use Rattle.progress.specs.declared.Progress.{Progress}
 use Rattle.progress.specs.Forward.{advancedBy}
 use Rattle.progress.specs.Requests.{requestedBy}
 use Rattle.session.specs.declared.Session.{Session}

@@ -13,14 +13,11 @@ use Rattle.segments.specs.Model.{isIn, putIn, missingOf, firstMissing, agrees}
 use Rattle.segments.specs.Laws.{agreed, agree-none, agree-put}
 use Rattle.frame.specs.Pgn.{pgnOk}
 use Rattle.frame.specs.declared.refusal.Refusal.{Refusal}
-use Rattle.frame.specs.declared.refusal.Refusal.the-variants.{PgnForm, AnnouncementForm, TooLong, Assurance, AlreadyTaken, OutOfSequence, SegmentCut}
 use Rattle.transport.specs.declared.Key.{Key}
 use Rattle.transport.specs.declared.Kind.{Kind}
 use Rattle.transport.specs.declared.announcement.Announcement.{Announcement}
 use Rattle.session.specs.declared.Session.{Session}
-use Rattle.session.specs.declared.announcement.Form.{Form}
 use Rattle.session.specs.declared.announcement.Form.the-variants.{Good, Bad}
-use Rattle.session.specs.declared.segment.Judged.{Judged}
 use Rattle.session.specs.declared.segment.Judged.the-variants.{Refused, Ends, Takes}
 use Rattle.transport.specs.Kinds.{isRts}
 use Rattle.progress.specs.declared.Announced.{Announced}

@@ -1,17 +1,13 @@
-use Prim.Native.Nat.{ℕ}
-use mathlib.Core.Path.{_≡_, refl, sym, ap, _∙_}
-use mathlib.Core.List.{List}
+use mathlib.Core.Path.{_≡_, sym, ap, _∙_}
 use denote.Ref.{now}
 use Rattle.laws.specs.Choice.{then}
 use Rattle.frame.specs.declared.refusal.Refusal.the-variants.{KeyNotOpen}
 use Rattle.session.specs.declared.State.{State}
 use Rattle.session.specs.Ends.{lacking}
 use Rattle.slots.specs.declared.Found.{Found}
-use Rattle.slots.specs.declared.Slot.{Slot}
 use Rattle.slots.specs.Slots.{stateIn, onState}
 use Rattle.lent_record.specs.Ready.{ready-of}
 use Rattle.record_bytes.specs.Layout.{slotsAt}
-use Rattle.engine.specs.declared.missing.Left.{Left}
 use Rattle.engine.specs.declared.missing.Left.the-variants.{Segments, Refused}
 use Rattle.engine.specs.Missing.{missingIn}
 use borrow.Author.Needs.{needs}
