@@ -1,5 +1,7 @@
 // What the calls answer, with 01's number, the frame that is sent and the place of the bytes (01, "Life of a session" and "Numbered
 // refusals").
+#![tactic(auto)]
+
 ghost use Rattle.std.specs.Prelude.{◌≡◌};
 ghost use Rattle.answer.specs.Answers.{answer_number, acceptance_number};
 
@@ -13,7 +15,7 @@ use transport::cts::Cts;
 use transport::{Key, Kind};
 
 // A message handed over: its first total bytes are in the slot.
-#[derive(Drop)]
+#[derive(Clone, Copy)]
 pub struct Message {
     pub key: Key,
     pub kind: Kind,
@@ -24,7 +26,7 @@ pub struct Message {
 }
 
 // A session that a refusal ended.
-#[derive(Drop)]
+#[derive(Clone, Copy)]
 pub struct Ending {
     pub key: Key,
     pub kind: Kind,
@@ -33,7 +35,7 @@ pub struct Ending {
 }
 
 // An RTS to the own address that was refused, with its PGN as it came.
-#[derive(Drop)]
+#[derive(Clone, Copy)]
 pub struct Rejection {
     pub key: Key,
     pub refusal: Refusal,
@@ -41,13 +43,13 @@ pub struct Rejection {
 }
 
 // A segment that was taken with no CTS due.
-#[derive(Drop)]
+#[derive(Clone, Copy)]
 pub struct Taken {
     pub key: Key,
     pub number: SegmentNumber,
 }
 
-#[derive(Drop)]
+#[derive(Clone, Copy)]
 pub enum Answer {
     // a Multi-PG frame judged good, with where it came from and went: its groups are the reader's to give
     Groups(Route),
@@ -68,20 +70,20 @@ pub enum Answer {
 }
 
 // Whether a session ended at a reading.
-#[derive(Drop)]
+#[derive(Clone, Copy)]
 pub enum End {
     Stays,
     Ended(Ending),
 }
 
 // The same of the session in a slot.
-#[derive(Drop)]
+#[derive(Clone, Copy)]
 pub struct SlotEnd {
     pub end: End,
 }
 
 // What an opening and a reading answer.
-#[derive(Drop)]
+#[derive(Clone, Copy)]
 pub enum Acceptance {
     Accepted,
     Refused(Refusal),

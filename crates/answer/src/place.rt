@@ -10,7 +10,7 @@ pub const SLOTS: usize = 8;
 // Slot i's part of the store starts at i times this.
 pub const SLOT_BYTES: usize = 4096;
 
-#[derive(Drop)]
+#[derive(Clone, Copy)]
 pub enum Place {
     // a group's data, or its trailer, in the frame
     Group { start: usize, len: usize },

@@ -11,7 +11,7 @@ use transport::response::Response;
 use transport::{Key, Kind};
 
 // The control frame that is due after a call, if one is.
-#[derive(Drop)]
+#[derive(Clone, Copy)]
 pub enum Sending {
     Send(Response),
     Nothing,

@@ -1,5 +1,7 @@
 // An answer as bytes of a fixed layout, for a caller that is not Rattle (01, "Life of a session"): its fields, then the control frame
 // that is due.
+#![tactic(auto)]
+
 ghost use Rattle.std.specs.Prelude.{◌≡◌, ◌+◌, ◌%◌, ◌≤◌, ◌∷◌, length};
 ghost use Rattle.std.proofs.Math.Seq.{paste};
 ghost use Rattle.words.specs.Words.{low4};
@@ -24,7 +26,7 @@ use transport::{Key, response};
 use words::put_word;
 
 // The fields of an answer; those that it does not have are 0.
-#[derive(Drop)]
+#[derive(Clone, Copy)]
 pub struct Fields {
     pub number: u8,
     pub code: u8,

@@ -1,4 +1,6 @@
 // A count for each address (02, E7): the sum of all counts, half of the test that every one of them is right (specs/OnePass.antt).
+#![tactic(auto)]
+
 ghost use Rattle.std.specs.Prelude.{◌≡◌, ◌≤◌, length};
 ghost use Rattle.counts.specs.Counts.{sum_of};
 

@@ -1,4 +1,6 @@
 // The receiver's calls on a record in a lent buffer: only what a call changes is written (01, "Life of a session").
+#![tactic(auto)]
+
 pub mod apply;
 pub mod call;
 pub mod control;

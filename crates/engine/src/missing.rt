@@ -10,7 +10,7 @@ use session::State;
 use session::end::missing_in;
 use transport::Key;
 
-#[derive(Drop)]
+#[derive(Clone, Copy)]
 pub enum Left {
     Segments(u64),
     Refused(Refusal),

@@ -20,7 +20,7 @@ use session::{Session, State};
 use slots::{SLOTS, Slot};
 
 // What a reading answers, and the ending of each slot.
-#[derive(Drop)]
+#[derive(Clone, Copy)]
 pub struct ReadingAnswer {
     pub answer: Acceptance,
     pub ends: [SlotEnd; 8],

@@ -5,7 +5,7 @@ ghost use Rattle.frame.specs.Identifiers.{identifier_of, built};
 use super::Address;
 use super::octet::wide;
 
-#[derive(Drop)]
+#[derive(Clone, Copy)]
 pub struct Identifier {
     pub priority: u8,
     pub extended_data_page: u8,
@@ -29,7 +29,7 @@ pub fn read(id: u32) -> Identifier
     }
 }
 
-#[derive(Drop)]
+#[derive(Clone, Copy)]
 pub enum Built {
     Id(u32),
     // a field is larger than its place

@@ -7,13 +7,13 @@ use super::refusal::Refusal;
 use super::{Address, identifier, length};
 
 // Where a frame comes from and where it goes.
-#[derive(Drop)]
+#[derive(Clone, Copy)]
 pub struct Route {
     pub sa: Address,
     pub da: Address,
 }
 
-#[derive(Drop)]
+#[derive(Clone, Copy)]
 pub enum Verdict {
     // PF 37, PGN 9472: groups
     MultiPg(Route),

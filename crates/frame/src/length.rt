@@ -17,7 +17,7 @@ pub fn is_length(n: usize) -> bool
     found
 }
 
-#[derive(Drop)]
+#[derive(Clone, Copy)]
 pub enum Least {
     Length(usize),
     Nothing,

@@ -1,1 +1,2 @@
 // Laws that any crate may cite, in specs/: there is no code here.
+#![tactic(auto)]

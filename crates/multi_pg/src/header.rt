@@ -9,7 +9,7 @@ use frame::pgn::is_pgn;
 use frame::refusal::Refusal;
 
 // What a header's first byte says.
-#[derive(Drop)]
+#[derive(Clone, Copy)]
 pub enum Service {
     // the frame's groups end here
     Padding,

@@ -1,4 +1,6 @@
 // Groups in one Multi-PG frame (01, "Groups in one frame"; 02, E5).
+#![tactic(auto)]
+
 pub mod header;
 pub mod read;
 
@@ -8,7 +10,7 @@ ghost use Rattle.multi_pg.specs.Groups.{end_of, start_of, next_at};
 use frame::refusal::Refusal;
 
 // A group in a frame: what its header says, where its data starts and how long it is, and how long its trailer is, which follows the data.
-#[derive(Drop)]
+#[derive(Clone, Copy)]
 pub struct Group {
     pub pgn: u32,
     pub service: u8,
@@ -19,7 +21,7 @@ pub struct Group {
 }
 
 // What is at a place of a frame.
-#[derive(Drop)]
+#[derive(Clone, Copy)]
 pub enum Step {
     At(Group),
     End,
@@ -27,19 +29,19 @@ pub enum Step {
 }
 
 // A whole frame, judged before any group is given out.
-#[derive(Drop)]
+#[derive(Clone, Copy)]
 pub enum Judgement {
     Good,
     Refused(Refusal),
 }
 
 // The place that a reader has come to.
-#[derive(Drop)]
+#[derive(Clone, Copy)]
 pub struct Cursor {
     pub at: usize,
 }
 
-#[derive(Drop)]
+#[derive(Clone, Copy)]
 pub enum Next {
     Given(Group, Cursor),
     End,

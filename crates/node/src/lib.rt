@@ -1,4 +1,6 @@
 // A receiver and a sender at one address: a frame goes to the end that it is for (02, E2).
+#![tactic(auto)]
+
 ghost use Rattle.std.specs.Prelude.{◌≡◌};
 ghost use Rattle.node.specs.Node.{is_responders, is_senders, node_in};
 
@@ -8,7 +10,7 @@ use transfer::Reply;
 use transport::control::is_response;
 
 // What a frame answers, and which end answered.
-#[derive(Drop)]
+#[derive(Clone, Copy)]
 pub enum NodeAnswer {
     Receiver(Answer),
     Sender(Reply),

@@ -1,4 +1,6 @@
 // Bytes of one slice copied into another: the one loop that does it, and 60 bytes at once.
+#![tactic(auto)]
+
 ghost use Rattle.std.specs.Prelude.{◌≡◌, ◌+◌, ◌≤◌, length, drop};
 ghost use Rattle.std.proofs.Math.Seq.{paste};
 

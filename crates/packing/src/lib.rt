@@ -1,4 +1,6 @@
 // The packer of Multi-PG frames (01, "Groups in one frame"; 02, E5).
+#![tactic(auto)]
+
 ghost use Rattle.std.specs.Prelude.{◌≡◌};
 ghost use Rattle.packing.specs.Packing.{packed};
 
@@ -11,7 +13,7 @@ mod request;
 mod trailer;
 mod write;
 
-#[derive(Drop)]
+#[derive(Clone, Copy)]
 pub enum Packed {
     // the frame's length; its bytes are the first of the output
     Frame(usize),

@@ -48,7 +48,7 @@ pub fn all_formats(services: &[u8], formats: &[u8]) -> bool
 }
 
 // How many bytes of data the groups have, and how many of trailers.
-#[derive(Drop)]
+#[derive(Clone, Copy)]
 pub struct Sums {
     pub data: usize,
     pub tails: usize,

@@ -1,4 +1,6 @@
 // A session in its two parts: what was announced, which stays, and how far it has come (01, "Announcement" and "Segment").
+#![tactic(auto)]
+
 pub mod forward;
 pub mod grant;
 pub mod request;
@@ -10,7 +12,7 @@ use transport::{Key, Kind};
 use wait::Wait;
 
 // What was announced, with the key of the session.
-#[derive(Drop)]
+#[derive(Clone, Copy)]
 pub struct Announced {
     pub key: Key,
     pub kind: Kind,
@@ -21,7 +23,7 @@ pub struct Announced {
     pub pgn: u32,
 }
 
-#[derive(Drop)]
+#[derive(Clone, Copy)]
 pub struct Progress {
     // the next segment of a BAM, whose segments come in sequence; 0 in an RTS, which has the record below in its place (02, E6)
     pub next: SegmentNumber,

@@ -2,7 +2,7 @@
 ghost use Rattle.std.specs.Prelude.{◌≡◌};
 ghost use Rattle.progress.specs.Waits.{wait_after, is_second, limit_in};
 
-#[derive(Drop)]
+#[derive(Clone, Copy)]
 pub enum Wait {
     // after a CTS, for the first segment that it grants
     First,
@@ -11,7 +11,7 @@ pub enum Wait {
 }
 
 // The idle limits in milliseconds, one a wait.
-#[derive(Drop)]
+#[derive(Clone, Copy)]
 pub struct IdleLimits {
     pub first: u32,
     pub second: u32,

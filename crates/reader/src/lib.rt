@@ -1,12 +1,14 @@
 // A reader that holds its frame and its place, and yields the frame's groups one after another (01, "Groups in one frame").
 // The functions over the struct are thin: each takes it apart and leaves the work to one over the slice and the place.
+#![tactic(auto)]
+
 ghost use Rattle.std.specs.Prelude.{◌≡◌};
 ghost use Rattle.multi_pg.specs.Groups.{start_of, next_at};
 ghost use Rattle.reader.specs.Runs.{rest_at, over_of, next_of, rest_of};
 
 use multi_pg::{Cursor, Next};
 
-#[derive(Drop)]
+#[derive(Clone, Copy)]
 pub struct Reader<'a> {
     pub frame: &'a [u8],
     pub at: usize,

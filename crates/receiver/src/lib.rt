@@ -1,5 +1,7 @@
 // The receiver's record: eight slots over one lent store (01, "Life of a session"). What a call does to it is the model in
 // specs/Calls.antt; the engine does that to the record's bytes, where they lie.
+#![tactic(auto)]
+
 ghost use Rattle.std.specs.Prelude.{◌≡◌};
 ghost use Rattle.receiver.specs.Bounds.{opened};
 
@@ -12,7 +14,7 @@ use session::State;
 use slots::{Slot, bounds};
 
 // The opening values, the last reading, and the slots.
-#[derive(Drop)]
+#[derive(Clone, Copy)]
 pub struct Receiver {
     pub own: Address,
     pub limits: IdleLimits,
@@ -20,7 +22,7 @@ pub struct Receiver {
     pub slots: [Slot; 8],
 }
 
-#[derive(Drop)]
+#[derive(Clone, Copy)]
 pub struct Opened {
     pub receiver: Receiver,
     pub answer: Acceptance,

@@ -10,7 +10,7 @@ use run::{kept, whole};
 use text::Wrote;
 
 // How far it has come.
-#[derive(Drop)]
+#[derive(Clone, Copy)]
 pub struct Feed {
     // the records that were good, and the bytes of the input before the next one
     pub records: u64,
@@ -151,7 +151,7 @@ fn turn(
 }
 
 // How the feeding ended, and after how many turns.
-#[derive(Drop)]
+#[derive(Clone, Copy)]
 pub struct Ended {
     pub feed: Feed,
     pub turns: u64,

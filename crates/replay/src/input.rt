@@ -3,7 +3,7 @@ ghost use Rattle.std.specs.Prelude.{◌≡◌, take};
 ghost use Rattle.replay.specs.Moves.{Behind};
 
 // What a read gave.
-#[derive(Drop)]
+#[derive(Clone, Copy)]
 pub enum Got {
     // the window now holds so many bytes
     Bytes(usize),

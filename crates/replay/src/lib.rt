@@ -1,5 +1,7 @@
 // A trace from standard input run over a receiver, its lines on standard output (01, "Program"). What is done with the bytes and printed is
 // decided by the crate run; this one reads, writes and moves on.
+#![tactic(auto)]
+
 mod feed;
 mod input;
 mod output;

@@ -17,7 +17,7 @@ use transport::head::to_responder;
 use transport::reason::wire_reason;
 
 // 1 where a frame goes out, its identifier, and a control frame's data; zeros where none does.
-#[derive(Drop)]
+#[derive(Clone, Copy)]
 pub struct Going {
     pub sends: u8,
     pub id: u32,

@@ -1,5 +1,7 @@
 // A sender's reply as bytes, in the layout of an answer (answer_bytes), for a caller that is not Rattle. Its codes are its own, 10 to 18, so
 // that the code alone says which end answered.
+#![tactic(auto)]
+
 ghost use Rattle.std.specs.Prelude.{◌≡◌, ◌%◌, length};
 ghost use Rattle.answer_bytes.specs.Places.{answer_length};
 ghost use Rattle.reply_bytes.specs.Replies.{offer_fields, segment_fields, reply_fields, reply_number, reply_bytes, given_bytes};

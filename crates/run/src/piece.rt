@@ -8,7 +8,7 @@ use super::step::{Step, take_record};
 pub const ROOM: usize = 20000;
 
 // Why no further record is taken.
-#[derive(Drop)]
+#[derive(Clone, Copy)]
 pub enum Stop {
     // the bytes end, between two records or inside one
     Bytes,
@@ -23,7 +23,7 @@ pub enum Stop {
 }
 
 // How far it went.
-#[derive(Drop)]
+#[derive(Clone, Copy)]
 pub struct Went {
     // the place after the last record
     pub at: usize,

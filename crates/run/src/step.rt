@@ -14,7 +14,7 @@ use text::Wrote;
 use trace::record;
 use trace::record::RecordRead;
 
-#[derive(Drop)]
+#[derive(Clone, Copy)]
 pub enum Step {
     // the place after the record, and the place after its lines
     Took { next: usize, put: usize },

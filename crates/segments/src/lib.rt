@@ -1,4 +1,6 @@
 // Which of the up to 69 segments of a message are in (02, E6).
+#![tactic(auto)]
+
 ghost use Rattle.std.specs.Prelude.{◌≡◌, ◌≤◌, min};
 ghost use Rattle.segments.specs.Laws.{Gap};
 ghost use Rattle.segments.specs.Model.{is_in, none_in, put_in, missing_of, first_missing, run_of, agrees};
@@ -11,7 +13,7 @@ use bits::{
 mod bits;
 
 // Segment n is bit n - 1 of low for n up to 64, and bit n - 65 of high for 65 to 69. Plain numbers, so that an enum can hold them.
-#[derive(Drop)]
+#[derive(Clone, Copy)]
 pub struct Segments {
     pub low: u64,
     pub high: u8,

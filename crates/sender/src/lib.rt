@@ -1,5 +1,7 @@
 // A record of four transfers in a lent buffer, and the calls on it (02, E2). The message is lent to each call that reads it and never
 // written; the frame that goes out is laid into a lent output of 64 bytes.
+#![tactic(auto)]
+
 pub mod announce;
 pub mod apply;
 pub mod ask;
@@ -16,7 +18,7 @@ use transfer::Reply;
 pub const FRAME_BYTES: usize = 64;
 
 // What a call answers that may give a frame: the frame's identifier and its length in the output, both 0 where none goes out.
-#[derive(Drop)]
+#[derive(Clone, Copy)]
 pub struct Sent {
     pub reply: Reply,
     pub id: u32,

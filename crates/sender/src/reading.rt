@@ -14,7 +14,7 @@ use transfer::{Change, State, Transfer};
 use words::word_at;
 
 // What a reading answers, and the ending of each transfer.
-#[derive(Drop)]
+#[derive(Clone, Copy)]
 pub struct SenderReading {
     pub answer: Acceptance,
     pub ends: [SlotEnd; 4],

@@ -17,7 +17,7 @@ use transport::cts::Cts;
 use transport::{Key, Kind, is_rts};
 
 // The numbers of an announcement, judged.
-#[derive(Drop)]
+#[derive(Clone, Copy)]
 pub enum Form {
     Good,
     Bad(Refusal),

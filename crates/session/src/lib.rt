@@ -1,4 +1,6 @@
 // What a frame or a reading makes of one session, by value (01, "Life of a session"). No slots and no store are known here.
+#![tactic(auto)]
+
 pub mod announcement;
 pub mod clock;
 pub mod end;
@@ -8,21 +10,21 @@ use answer::Answer;
 use progress::{Announced, Progress};
 
 // An open session: what was announced, and how far it has come.
-#[derive(Drop)]
+#[derive(Clone, Copy)]
 pub struct Session {
     pub announced: Announced,
     pub progress: Progress,
 }
 
 // What is known of a key: its session, if one is open.
-#[derive(Drop)]
+#[derive(Clone, Copy)]
 pub enum State {
     Closed,
     Open(Session),
 }
 
 // What becomes of the session.
-#[derive(Drop)]
+#[derive(Clone, Copy)]
 pub enum Change {
     Stays,
     Opens(Session),
@@ -31,7 +33,7 @@ pub enum Change {
 }
 
 // What becomes of the session, and what is answered.
-#[derive(Drop)]
+#[derive(Clone, Copy)]
 pub struct Step {
     pub change: Change,
     pub answer: Answer,

@@ -18,7 +18,7 @@ use transport::cts::Cts;
 use transport::is_rts;
 use transport::segment::Segment;
 
-#[derive(Drop)]
+#[derive(Clone, Copy)]
 pub enum Judged {
     // the session stays as it is
     Refused(Refusal),

@@ -1,4 +1,6 @@
 // Eight slots over one store (01, "Numbers that hold everywhere").
+#![tactic(auto)]
+
 ghost use Rattle.std.specs.Prelude.{◌≡◌};
 ghost use Rattle.slots.specs.Slots.{is_at};
 
@@ -14,13 +16,13 @@ pub const SLOTS: usize = place::SLOTS;
 pub const SLOT_BYTES: usize = place::SLOT_BYTES;
 
 // A slot is free where no session is open in it.
-#[derive(Drop)]
+#[derive(Clone, Copy)]
 pub struct Slot {
     pub state: State,
 }
 
 // What a search over the slots finds.
-#[derive(Drop)]
+#[derive(Clone, Copy)]
 pub enum Found {
     At(usize),
     Nothing,

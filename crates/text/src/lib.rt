@@ -1,16 +1,18 @@
 // Lines of text in a lent buffer: a word, numbers in decimal, and the end of the line (01, "Program").
+#![tactic(auto)]
+
 pub mod decimal;
 pub mod line;
 
 // How much room is left after some bytes.
-#[derive(Drop)]
+#[derive(Clone, Copy)]
 pub enum Left {
     Enough(usize),
     Short,
 }
 
 // What a write into a lent buffer answers.
-#[derive(Drop)]
+#[derive(Clone, Copy)]
 pub enum Wrote {
     // the place after what was written
     Written(usize),

@@ -1,10 +1,12 @@
 // The trace that the program reads (01, "Program"): its numbers and its records.
+#![tactic(auto)]
+
 pub mod number;
 pub mod output;
 pub mod record;
 
 // Why bytes are no number or no record.
-#[derive(Drop)]
+#[derive(Clone, Copy)]
 pub enum Fault {
     // the bytes end inside a number that is good so far
     Cut,

@@ -6,7 +6,7 @@ ghost use Rattle.trace.specs.Outputs.{Put, NumberWritten};
 use super::output::Written;
 use super::{Fault, output};
 
-#[derive(Drop)]
+#[derive(Clone, Copy)]
 pub enum NumberRead {
     // the number, and the place after it
     Number(u32, usize),

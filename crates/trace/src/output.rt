@@ -1,7 +1,7 @@
 // Bytes put into a lent output.
 ghost use Rattle.std.specs.Prelude.{◌≡◌, ◌+◌, leb};
 
-#[derive(Drop)]
+#[derive(Clone, Copy)]
 pub enum Written {
     // all is written, up to this place
     Next(usize),

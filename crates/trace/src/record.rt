@@ -8,7 +8,7 @@ use super::output::Written;
 use super::{Fault, number, output};
 use octets::copy;
 
-#[derive(Drop)]
+#[derive(Clone, Copy)]
 pub enum RecordRead {
     // no byte is at the place: between two records, not inside one
     End,

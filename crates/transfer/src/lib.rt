@@ -1,5 +1,7 @@
 // One message on its way out, by value: what goes out next, and what the responder's frames and the clock make of it (02, E2). No record
 // and no byte of the message is known here.
+#![tactic(auto)]
+
 ghost use Rattle.std.specs.Prelude.{◌≡◌, ◌<◌};
 ghost use Rattle.transfer.specs.Transfers.{segments_of, kind_of, max_of, announcement_of, status_of};
 
@@ -18,7 +20,7 @@ use transport::eoms::Status;
 use transport::{Key, Kind};
 
 // What was announced: it stays. The key's SA is the own address, its DA the destination.
-#[derive(Drop)]
+#[derive(Clone, Copy)]
 pub struct Offer {
     pub key: Key,
     pub total: ByteCount,
@@ -26,7 +28,7 @@ pub struct Offer {
 }
 
 // How far it has come.
-#[derive(Drop)]
+#[derive(Clone, Copy)]
 pub struct Course {
     // the next segment to go out
     pub next: SegmentNumber,
@@ -42,21 +44,21 @@ pub struct Course {
     pub mark: u32,
 }
 
-#[derive(Drop)]
+#[derive(Clone, Copy)]
 pub struct Transfer {
     pub offer: Offer,
     pub course: Course,
 }
 
 // What is known of a destination and a session number: the transfer, if one is open.
-#[derive(Drop)]
+#[derive(Clone, Copy)]
 pub enum State {
     Closed,
     Open(Transfer),
 }
 
 // What becomes of the transfer.
-#[derive(Drop)]
+#[derive(Clone, Copy)]
 pub enum Change {
     Stays,
     Opens(Transfer),
@@ -65,7 +67,7 @@ pub enum Change {
 }
 
 // What is answered, and with it what goes out.
-#[derive(Drop)]
+#[derive(Clone, Copy)]
 pub enum Reply {
     // the RTS or the BAM
     Announced(Offer),
@@ -86,7 +88,7 @@ pub enum Reply {
 }
 
 // What becomes of the transfer, and what is answered.
-#[derive(Drop)]
+#[derive(Clone, Copy)]
 pub struct Step {
     pub change: Change,
     pub reply: Reply,

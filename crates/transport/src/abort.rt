@@ -7,13 +7,13 @@ use super::head::head_byte;
 use frame::octet::{low_byte, low24_at};
 
 // Who breaks off.
-#[derive(Drop)]
+#[derive(Clone, Copy)]
 pub enum Role {
     Originator,
     Responder,
 }
 
-#[derive(Drop)]
+#[derive(Clone, Copy)]
 pub struct Abort {
     pub key: Key,
     pub reason: u8,

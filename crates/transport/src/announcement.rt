@@ -7,7 +7,7 @@ use super::{Key, Kind};
 use frame::octet::{low_byte, low24_at};
 use frame::{ByteCount, SegmentNumber};
 
-#[derive(Drop)]
+#[derive(Clone, Copy)]
 pub struct Announcement {
     pub kind: Kind,
     pub total: ByteCount,

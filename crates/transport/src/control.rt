@@ -9,7 +9,7 @@ use super::eoms::{Status, read_status};
 use frame::octet::low24_at;
 use frame::refusal::Refusal;
 
-#[derive(Drop)]
+#[derive(Clone, Copy)]
 pub enum Control {
     Announce(Announcement),
     EndOfMessage(Status),

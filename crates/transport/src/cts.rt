@@ -8,7 +8,7 @@ use frame::SegmentNumber;
 use frame::octet::{low_byte, low24_at};
 
 // As we send it, with request code 0.
-#[derive(Drop)]
+#[derive(Clone, Copy)]
 pub struct Cts {
     pub key: Key,
     pub next: SegmentNumber,
@@ -17,7 +17,7 @@ pub struct Cts {
 }
 
 // As it comes: with its request code, by which a responder may ask for the EOMS once more.
-#[derive(Drop)]
+#[derive(Clone, Copy)]
 pub struct CtsRead {
     pub cts: Cts,
     pub request: u8,

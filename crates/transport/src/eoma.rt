@@ -7,7 +7,7 @@ use super::head::head_byte;
 use frame::octet::{low_byte, low24_at};
 use frame::{ByteCount, SegmentNumber};
 
-#[derive(Drop)]
+#[derive(Clone, Copy)]
 pub struct Eoma {
     pub key: Key,
     pub total: ByteCount,

@@ -1,4 +1,6 @@
 // Transfer frames: FD.TP.CM and FD.TP.DT, read and written (01, "Transfer frames").
+#![tactic(auto)]
+
 ghost use Rattle.std.specs.Prelude.{◌≡◌};
 ghost use Rattle.transport.specs.Kinds.{is_rts};
 
@@ -16,7 +18,7 @@ pub mod segment;
 use frame::{Address, SessionNumber};
 
 // What a session is found by.
-#[derive(Drop)]
+#[derive(Clone, Copy)]
 pub struct Key {
     pub sa: Address,
     pub da: Address,
@@ -24,7 +26,7 @@ pub struct Key {
 }
 
 // How a message is transferred.
-#[derive(Drop)]
+#[derive(Clone, Copy)]
 pub enum Kind {
     Rts,
     Bam,

@@ -11,7 +11,7 @@ use frame::judge::Route;
 use frame::refusal::Refusal;
 
 // The key is that of the session, so the frame goes to its SA.
-#[derive(Drop)]
+#[derive(Clone, Copy)]
 pub enum Response {
     Cts(Cts),
     Eoma(Eoma),
@@ -40,7 +40,7 @@ pub fn bytes(f: Response) -> [u8; 12]
     }
 }
 
-#[derive(Drop)]
+#[derive(Clone, Copy)]
 pub enum ResponseRead {
     Cts(CtsRead),
     Eoma(Eoma),

@@ -14,14 +14,14 @@ use frame::refusal::Refusal;
 use octets::{copy, copy_sixty};
 
 // What comes before a segment's data, and how many bytes follow.
-#[derive(Drop)]
+#[derive(Clone, Copy)]
 pub struct Segment {
     pub format: u8,
     pub number: SegmentNumber,
     pub room: usize,
 }
 
-#[derive(Drop)]
+#[derive(Clone, Copy)]
 pub enum DataFrame {
     Segment(Segment),
     // 9 for a frame under 5 bytes

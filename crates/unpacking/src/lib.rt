@@ -1,4 +1,6 @@
 // All groups of a Multi-PG frame in one call (01, "Groups in one frame"; 02, E5).
+#![tactic(auto)]
+
 ghost use Rattle.std.specs.Prelude.{◌≡◌};
 ghost use Rattle.unpacking.specs.Unpacking.{unpacked};
 
@@ -12,7 +14,7 @@ mod fill;
 mod place;
 mod row;
 
-#[derive(Drop)]
+#[derive(Clone, Copy)]
 pub enum Unpacked {
     // how many; the first numbers of the list are theirs, six for each
     Groups(usize),

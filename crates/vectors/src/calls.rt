@@ -12,7 +12,7 @@ use report::answer_lines::write_answer;
 use text::Wrote;
 
 // What a transfer announces.
-#[derive(Drop)]
+#[derive(Clone, Copy)]
 struct Transfer {
     sa: u8,
     session: u8,
