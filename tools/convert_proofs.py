@@ -17,38 +17,48 @@ MADE = re.compile(r"\.(Statement|Tie|Reads|Lts)\b")
 
 
 def alike(a):
-    a = a.replace("-", "_")
-    return a[:-4] if a.endswith("_lem") else a
-
-
-def signatures(root):
-    """The names of each function's `&mut` parameters, by the end of its path."""
-    found = {}
-    for folder, _, files in os.walk(os.path.join(root, "crates")):
-        if "/src" not in folder:
-            continue
-        crate = folder.split("/crates/")[1].split("/")[0]
-        inner = folder.split("/src")[1].strip("/").replace("/", "::")
-        for f in files:
-            if not f.endswith(".rt"):
-                continue
-            module = "::".join(x for x in (crate, inner, "" if f in ("lib.rt", "main.rt", "mod.rt") else f[:-3]) if x)
-            text = open(os.path.join(folder, f), encoding="utf-8").read()
-            for m in re.finditer(r"fn (\w+)(?:<[^>]*>)?\(([^)]*)\)", text):
-                params = [p.strip() for p in m.group(2).split(",") if p.strip()]
-                found[f"{module}::{m.group(1)}"] = [p.split(":")[0].replace("mut ", "").strip() for p in params if re.search(r":\s*&(?:'\w+ )?mut\b", p)]
-    return found
+    a = a.replace("-", "_").lower()
+    a = {"pgn_of_content": "pgn_of", "service_of_content": "service_of"}.get(a, a)
+    return re.sub(r"_lem(?=\d*$)", "", a)
 
 
 class Function:
-    def __init__(self, names, muts, said):
-        self.n, self.muts, self.said = names, muts, said
+    def __init__(self, names, said):
+        self.n, self.said = names, said
         self.index = {}
         for i, place in enumerate(names["places"]):
             self.index.setdefault(place[0], i)
 
     def parent(self, i):
-        return self.index[self.n["places"][i][1]]
+        above = self.n["places"][i][1]
+        return i if above is None else self.index[above]
+
+    def chain(self, i):
+        found = [i]
+        while self.n["places"][found[-1]][1] is not None:
+            found.append(self.parent(found[-1]))
+        return found
+
+    def has(self, i, parts):
+        """Whether a path can begin at a place: with its own step, or with what was passed at the start."""
+        place = self.n["places"][i]
+        if place[1] is None:
+            return alike(parts[0]) in ("args", "requires", "ranges", "type_inv", "lifetimes")
+        arm = self.n["arms"][i]
+        if arm and any([alike(p) for p in parts[: len(path) + 1]] == [alike(p) for p in [step, *path]] for _, step, path in arm[2]):
+            return True
+        return alike(parts[0]) == alike(place[2][0])
+
+    def nearest(self, at, i, parts):
+        """The place of a path on the way from `at` up: the one that was counted, else the nearest that has its step."""
+        if not parts or self.has(i, parts):
+            return i
+        way = self.chain(at)
+        fits = [j for j in way if self.has(j, parts)]
+        if not fits:
+            return i
+        here = way.index(i) if i in way else 0
+        return min(fits, key=lambda j: abs(way.index(j) - here))
 
     def step(self, i, parts, text):
         """What stands for a path of a place: parts begin with the place's own step, or with args and requires at the start."""
@@ -79,8 +89,9 @@ class Function:
                 while j < len(rest) and rest[j] == "1":
                     k += 1
                     j += 1
-                if j < len(rest) and rest[j] == "0" and callee in self.muts and k < len(self.muts[callee]):
-                    rest = ["new", self.muts[callee][k], *rest[j + 1:]]
+                params = self.n["params"].get(callee, [])
+                if j < len(rest) and rest[j] == "0" and k < len(params):
+                    rest = ["new", params[k], *rest[j + 1:]]
                 else:
                     self.said(f"new of {callee}: {text}")
             return ".".join(["c", new, *rest])
@@ -117,7 +128,7 @@ class Function:
             if var not in env:
                 return m.group(0)
             i, parts = self.resolved(env, var, parts, m.group(0))
-            return self.step(i, parts, m.group(0))
+            return self.step(self.nearest(env["c"], i, parts), parts, m.group(0))
 
         return PATH.sub(turned, text)
 
@@ -164,13 +175,13 @@ def words(text):
     return set(re.findall(r"[^\s(){}\[\].,;]+", text))
 
 
-def convert(folder, crate, path, names, muts, said):
+def convert(folder, crate, path, names, said):
     source = os.path.join(folder, "Proof.antt")
     text = open(source, encoding="utf-8").read()
     if "tie.close" not in text and "tie.spec" not in text:
         said("by hand: kept")
         return
-    f = Function(names, muts, said)
+    f = Function(names, said)
     uses, blocks = declarations(text)
     loops = names["loops"]
     new_need = {}
@@ -303,7 +314,6 @@ def convert(folder, crate, path, names, muts, said):
 
 def main(crate, json_file):
     names = json.load(open(json_file))
-    muts = signatures(".")
     for folder, _, files in os.walk(f"crates/{crate}/proofs"):
         if "Proof.antt" not in files:
             continue
@@ -316,7 +326,7 @@ def main(crate, json_file):
         if key not in names:
             said("no such function now")
             continue
-        convert(folder, crate, path, names[key], muts, said)
+        convert(folder, crate, path, names[key], said)
 
 
 if __name__ == "__main__":
