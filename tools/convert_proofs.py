@@ -74,8 +74,6 @@ class Function:
                 if [alike(p) for p in parts[: len(have)]] == [alike(p) for p in have] and (best is None or len(have) > best[0]):
                     best = (len(have), field)
             if best:
-                if best[1].endswith("-own"):
-                    return ".".join(["c", arm[0], *parts[best[0]:]])
                 return ".".join(["c", arm[0], best[1], *parts[best[0]:]])
         if old and alike(parts[0]) == alike(old):
             rest = list(parts[1:])

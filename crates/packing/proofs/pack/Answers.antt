@@ -2,7 +2,7 @@ use mathlib.Core.Path.{◌≡◌, sym, ap, ◌∙◌}
 use mathlib.Core.Bool.{true}
 use lib.ListN.{length}
 use native.Mathlib.Omega.{arith}
-use borrow.Author.Tests.{not_true, not-false}
+use borrow.Author.Tests.{not-true, not-false}
 use Rattle.frame.specs.Lengths.{frame_length}
 use Rattle.frame.specs.LengthLaws.{frame_bounds}
 use Rattle.packing.specs.Packing.{Request, needed, request_fits}
@@ -20,7 +20,7 @@ returns-then-not-all_pgns c =
     let q : Request = (record { services = c.args.services.now; formats = c.args.formats.now; pgns = c.args.pgns.now; lengths = c.args.lengths.now; trailers = c.args.trailers.now; joined = c.args.«data».now; assured = c.args.assured.now }) in
     let e : request_fits q (length c.args.out.now) ≡ true = fitted_true q (length c.args.out.now) c.fitting-bytes.result c.fitting-bytes.ensures c.if-bytes-gt64.false in
     let m : Met q (length c.args.out.now) = request_met q (length c.args.out.now) e in
-    eight q c.args.out.now m e (sym c.all_pgns.ensures ∙ not_true _ c.if-not-all_pgns.true-raw)
+    eight q c.args.out.now m e (sym c.all_pgns.ensures ∙ not-true _ c.if-not-all_pgns.true-raw)
 
 pub write_groups-requires : goal.write_groups-requires
 write_groups-requires c =

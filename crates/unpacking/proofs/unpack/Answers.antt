@@ -4,7 +4,7 @@ use mathlib.Core.List.{List}
 use Prim.Native.Nat.{ℕ}
 use lib.Dec.{eqb}
 use lib.ListN.{length}
-use borrow.Author.Tests.{eq-eqb, ne_eqb, not_true, not-false}
+use borrow.Author.Tests.{eq-eqb, ne_eqb, not-true, not-false}
 use Rattle.laws.specs.Choice.{then, else}
 use Rattle.frame.specs.Lengths.{is_length}
 use Rattle.frame.specs.LengthLaws.{length_to}
@@ -35,7 +35,7 @@ returns-then-out-ne-GROUPS_WORDS c = other_list c.args.frame.now c.args.out.now 
 
 pub returns-then-not-is_length : goal.returns-then-not-is_length
 returns-then-not-is_length c =
-    other_length c.args.frame.now c.args.out.now c.if-out-ne-GROUPS_WORDS.false (sym c.is_length.ensures ∙ not_true _ c.if-not-is_length.true-raw)
+    other_length c.args.frame.now c.args.out.now c.if-out-ne-GROUPS_WORDS.false (sym c.is_length.ensures ∙ not-true _ c.if-not-is_length.true-raw)
 
 pub first_only-requires : goal.first_only-requires
 first_only-requires c =

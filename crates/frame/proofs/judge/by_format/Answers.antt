@@ -20,6 +20,6 @@ returns-in-78 c = ap (λ (p : ℕ). by_format p c.args.route) (sym c.in-78.is)
 pub returns-in_default : goal.returns-in_default
 unfolding by_format
 returns-in_default c =
-    else _ _ _ _ (ne_eqb _ _ c.in_default.rest.0.0.1)
-    (else _ _ _ _ (ne_eqb _ _ c.in_default.rest.0.1)
-    (else _ _ _ _ (ne_eqb _ _ c.in_default.rest.1) refl))
+    else _ _ _ _ (ne_eqb _ _ c.in_default.in_default-own.rest.0.0.1)
+    (else _ _ _ _ (ne_eqb _ _ c.in_default.in_default-own.rest.0.1)
+    (else _ _ _ _ (ne_eqb _ _ c.in_default.in_default-own.rest.1) refl))

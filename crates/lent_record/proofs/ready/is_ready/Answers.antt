@@ -1,7 +1,7 @@
 use mathlib.Core.Path.{sym, ap, ◌∙◌}
 use lib.Dec.{eqb}
 use lib.ListN.{length}
-use borrow.Author.Tests.{eq-eqb, ne_eqb, not_true, not-false}
+use borrow.Author.Tests.{eq-eqb, ne_eqb, not-true, not-false}
 use Rattle.laws.specs.Choice.{and_next, and_stop}
 use Rattle.record_bytes.specs.Places.{record_length}
 use Rattle.record_bytes.specs.Layout.{pieces_of, record_at}
@@ -29,7 +29,7 @@ returns-then-not-values_ok c =
     let own : Address = (record_at b).own in
     and_next (eqb (length a.bytes.now) record_length) _ _ (eq-eqb _ _ c.if-bytes-ne-RECORD_BYTES.false)
     (and_next (eqb a.store 32768) _ _ (eq-eqb _ _ c.if-store.false)
-    (and_stop _ (pieces_ready own [] (pieces_of b)) (ap (values_ok own) (sym c.limits_of.ensures) ∙ sym c.values_ok.ensures ∙ not_true _ c.if-not-values_ok.true-raw)))
+    (and_stop _ (pieces_ready own [] (pieces_of b)) (ap (values_ok own) (sym c.limits_of.ensures) ∙ sym c.values_ok.ensures ∙ not-true _ c.if-not-values_ok.true-raw)))
     ∙ sym (ready_in_lem a.bytes.now a.store)
 
 pub returns : goal.returns

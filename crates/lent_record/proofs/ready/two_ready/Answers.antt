@@ -4,13 +4,13 @@ use mathlib.Core.Path.{◌≡◌, sym, ap, ◌∙◌}
 use mathlib.Core.Logic.{⊎_elim}
 use lib.Dec.{eqb}
 use lib.ListN.{get_or}
-use borrow.Author.Tests.{eq-eqb, ne_eqb, not_true, not-false}
+use borrow.Author.Tests.{eq-eqb, ne_eqb, not-true, not-false}
 use Rattle.laws.specs.Choice.{and_next, and_stop, or_next, or_stop}
 use Rattle.record_bytes.specs.Places.{slot_length, slot_place}
 use Rattle.lent_record.proofs.ready.two_ready.Goals as goal
 
 pub returns-then-not-open_ready : goal.returns-then-not-open_ready
-returns-then-not-open_ready c = and_stop _ _ (sym (or_next _ _ _ (ne_eqb _ _ c.if-bytes-at-ne0.true) (sym (sym c.open_ready.ensures ∙ not_true _ c.if-not-open_ready.true-raw))))
+returns-then-not-open_ready c = and_stop _ _ (sym (or_next _ _ _ (ne_eqb _ _ c.if-bytes-at-ne0.true) (sym (sym c.open_ready.ensures ∙ not-true _ c.if-not-open_ready.true-raw))))
 
 pub returns-then-bytes-at-eq0 : goal.returns-then-bytes-at-eq0
 returns-then-bytes-at-eq0 c =

@@ -1,6 +1,6 @@
 use mathlib.Core.Path.{sym, ◌∙◌}
 use native.Mathlib.Omega.{arith}
-use borrow.Author.Tests.{not_true, not-false}
+use borrow.Author.Tests.{not-true, not-false}
 use Rattle.packing.specs.Packing.{Request}
 use Rattle.packing.proofs.Fits.{many, uneven, over_sums, cut, fits, even_lists}
 use Rattle.packing.proofs.request.fitting.Goals as goal
@@ -13,7 +13,7 @@ returns-then-n-gt16 c =
 pub returns-then-not-services-n : goal.returns-then-not-services-n
 returns-then-not-services-n c =
     let q : Request = (record { services = c.args.services.now; formats = c.args.formats.now; pgns = c.args.pgns.now; lengths = c.args.lengths.now; trailers = c.args.trailers.now; joined = c.args.«data».now; assured = c.args.assured.now }) in
-    uneven q c.args.out (not_true _ c.if-not-services-n.true-raw)
+    uneven q c.args.out (not-true _ c.if-not-services-n.true-raw)
 
 pub added_up-bytes-requires : goal.added_up-bytes-requires
 added_up-bytes-requires c =
@@ -36,7 +36,7 @@ returns-then-need-gt64 c =
 pub returns-then-not-data-bytes : goal.returns-then-not-data-bytes
 returns-then-not-data-bytes c =
     let q : Request = (record { services = c.args.services.now; formats = c.args.formats.now; pgns = c.args.pgns.now; lengths = c.args.lengths.now; trailers = c.args.trailers.now; joined = c.args.«data».now; assured = c.args.assured.now }) in
-    cut q c.args.out c.added_up-bytes.result c.added_up-bytes.ensures.0 c.if-need-gt64.false (not-false _ c.if-not-services-n.false-raw) (not_true _ c.if-not-data-bytes.true-raw)
+    cut q c.args.out c.added_up-bytes.result c.added_up-bytes.ensures.0 c.if-need-gt64.false (not-false _ c.if-not-services-n.false-raw) (not-true _ c.if-not-data-bytes.true-raw)
 
 pub returns : goal.returns
 returns c =

@@ -2,7 +2,7 @@ use Prim.Native.Nat.{◌+◌, ◌-◌}
 use mathlib.Core.Path.{sym, ◌∙◌}
 use native.Mathlib.Omega.{arith}
 use lib.ListN.{drop, get_or}
-use borrow.Author.Tests.{not_true, not-false}
+use borrow.Author.Tests.{not-true, not-false}
 use Rattle.multi_pg.specs.Services.{service_of, has_trailer}
 use Rattle.packing.specs.Packing.{trailers_ok}
 use Rattle.packing.proofs.Checks.{failed, passed, trailers_turn, trailers_end}
@@ -19,7 +19,7 @@ returns-then-not-is_trailer c =
       sums_wrong c.args.services.now c.args.formats.now c.args.lengths.now c.args.trailers.now
           (failed (trailers_ok c.args.services.now c.args.formats.now c.args.trailers.now) (trailers_ok (drop c.loop-i.i c.args.services.now) (drop c.loop-i.i c.args.formats.now) (drop c.loop-i.i c.args.trailers.now)) (trailers_ok (drop (c.loop-i.i + 1) c.args.services.now) (drop (c.loop-i.i + 1) c.args.formats.now) (drop (c.loop-i.i + 1) c.args.trailers.now)) (has_trailer (service_of (get_or c.args.services.now c.loop-i.i 0) (get_or c.args.formats.now c.loop-i.i 0)) (get_or c.args.trailers.now c.loop-i.i 0)) c.loop-i.invariant.1
           (trailers_turn c.args.services.now c.args.formats.now c.loop-i.i c.args.trailers.now (omega (arith, c.requires.0)) (omega (arith, c.requires.1)) (omega arith))
-          (sym c.is_trailer.ensures ∙ not_true _ c.if-not-is_trailer.true-raw)),
+          (sym c.is_trailer.ensures ∙ not-true _ c.if-not-is_trailer.true-raw)),
       omega arith,
       omega arith,
     )

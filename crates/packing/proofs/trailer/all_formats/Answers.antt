@@ -2,7 +2,7 @@ use Prim.Native.Nat.{◌+◌, ◌-◌}
 use mathlib.Core.Path.{sym, ◌∙◌}
 use native.Mathlib.Omega.{arith}
 use lib.ListN.{drop, get_or}
-use borrow.Author.Tests.{not_true, not-false}
+use borrow.Author.Tests.{not-true, not-false}
 use Rattle.multi_pg.specs.Services.{service_of, is_group}
 use Rattle.packing.specs.Packing.{formats_ok}
 use Rattle.packing.proofs.Checks.{failed, passed, formats_turn, formats_end}
@@ -19,7 +19,7 @@ pub returns-then-not-is_format : goal.returns-then-not-is_format
 returns-then-not-is_format c =
     failed (formats_ok c.args.services.now c.args.formats.now) (formats_ok (drop c.loop-i.i c.args.services.now) (drop c.loop-i.i c.args.formats.now)) (formats_ok (drop (c.loop-i.i + 1) c.args.services.now) (drop (c.loop-i.i + 1) c.args.formats.now)) (is_group (service_of (get_or c.args.services.now c.loop-i.i 0) (get_or c.args.formats.now c.loop-i.i 0))) c.loop-i.invariant.1
     (formats_turn c.args.services.now c.args.formats.now c.loop-i.i (omega (arith, c.shorter-n.ensures)) (omega (arith, c.shorter-n.ensures)))
-    (sym c.is_format.ensures ∙ not_true _ c.if-not-is_format.true-raw)
+    (sym c.is_format.ensures ∙ not-true _ c.if-not-is_format.true-raw)
 
 pub loop-i-preserved : goal.loop-i-preserved
 loop-i-preserved c =

@@ -1,10 +1,10 @@
 use mathlib.Core.Path.{refl}
-use borrow.Author.Tests.{not_true}
+use borrow.Author.Tests.{not-true}
 use Rattle.replay.proofs.Kept.{off, refills}
 use Rattle.replay.proofs.feed.refilled.Goals as goal
 
 pub returns-then-not-next : goal.returns-then-not-next
-returns-then-not-next c = off _ (not_true _ c.if-not-next.true)
+returns-then-not-next c = off _ (not-true _ c.if-not-next.true)
 
 pub returns-in-Bytes : goal.returns-in-Bytes
 returns-in-Bytes c =

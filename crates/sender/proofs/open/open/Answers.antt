@@ -1,6 +1,6 @@
 use mathlib.Core.Path.{sym, ap, ◌∙◌}
 use mathlib.Core.Bool.{Bool}
-use borrow.Author.Tests.{not_true, not-false}
+use borrow.Author.Tests.{not-true, not-false}
 use Rattle.laws.specs.Choice.{then, else}
 use Prim.Native.Nat.{ℕ}
 use mathlib.Core.List.{List}
@@ -13,7 +13,7 @@ use Rattle.sender.proofs.open.open.Goals as goal
 pub returns-then-not-put_opened : goal.returns-then-not-put_opened
 unfolding open_in
 returns-then-not-put_opened c = let w = c.put_opened.ensures in
-    else _ _ _ _ (sym (ap (λ (x : Bool × List ℕ). x.0) w) ∙ not_true _ c.if-not-put_opened.true-raw) (ap (λ (x : Bool × List ℕ). (Refused OutOfBounds, x.1)) w)
+    else _ _ _ _ (sym (ap (λ (x : Bool × List ℕ). x.0) w) ∙ not-true _ c.if-not-put_opened.true-raw) (ap (λ (x : Bool × List ℕ). (Refused OutOfBounds, x.1)) w)
 
 pub returns-then-not-opening_ok : goal.returns-then-not-opening_ok
 unfolding open_in
@@ -21,7 +21,7 @@ returns-then-not-opening_ok c = let a = c.args in
     let w = c.put_opened.ensures in
     then _ _ _ _ (sym (ap (λ (x : Bool × List ℕ). x.0) w) ∙ not-false _ c.if-not-put_opened.false-raw)
     (ap (λ (x : Bool × List ℕ). (Refused OutOfBounds, x.1)) w
-    ∙ ap (λ (t : Bool). (accepted t, (opened_in a.own a.limit a.reading a.buffer.now).1)) (sym (sym c.opening_ok.ensures ∙ not_true _ c.if-not-opening_ok.true-raw)))
+    ∙ ap (λ (t : Bool). (accepted t, (opened_in a.own a.limit a.reading a.buffer.now).1)) (sym (sym c.opening_ok.ensures ∙ not-true _ c.if-not-opening_ok.true-raw)))
 
 pub returns : goal.returns
 unfolding open_in

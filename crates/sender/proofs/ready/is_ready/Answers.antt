@@ -1,6 +1,6 @@
 use mathlib.Core.Path.{refl, sym, ap, ◌∙◌}
 use mathlib.Core.Bool.{not}
-use borrow.Author.Tests.{eq-eqb, ne_eqb, not_true, not-false}
+use borrow.Author.Tests.{eq-eqb, ne_eqb, not-true, not-false}
 use Rattle.laws.specs.Choice.{then, else, and_next, and_stop}
 use Rattle.slots.specs.Bounds.{opening_ok}
 use Rattle.sender_bytes.specs.Layout.{own_at}
@@ -15,7 +15,7 @@ pub returns-then-not-opening_ok : goal.returns-then-not-opening_ok
 unfolding ready_in in_bounds
 returns-then-not-opening_ok c = let b = c.args.bytes.now in
     else _ _ _ _ (ap not (eq-eqb _ _ c.if-bytes-ne-RECORD_BYTES.false))
-    (and_stop _ _ (ap (opening_ok (own_at b)) (sym c.word_at.ensures) ∙ sym c.opening_ok.ensures ∙ not_true _ c.if-not-opening_ok.true-raw))
+    (and_stop _ _ (ap (opening_ok (own_at b)) (sym c.word_at.ensures) ∙ sym c.opening_ok.ensures ∙ not-true _ c.if-not-opening_ok.true-raw))
 
 pub returns : goal.returns
 unfolding ready_in in_bounds

@@ -1,6 +1,6 @@
 use mathlib.Core.Path.{◌≡◌, refl, sym, ap, ◌∙◌}
 use mathlib.Core.Bool.{Bool, true, false, ◌&&◌}
-use borrow.Author.Tests.{not_true, not-false}
+use borrow.Author.Tests.{not-true, not-false}
 use Rattle.laws.specs.Bools.{and_same}
 use Rattle.slots.specs.ByKind.{kind_ok}
 use Rattle.slots.proofs.ByKind.{by_kind_lem}
@@ -12,13 +12,13 @@ three p q r = and_same (and_same p q) r
 
 pub returns-then-not-numbers_ok : goal.returns-then-not-numbers_ok
 returns-then-not-numbers_ok c =
-    three {a = false} (sym (not_true _ c.if-not-numbers_ok.true-raw) ∙ c.numbers_ok.ensures) refl refl
+    three {a = false} (sym (not-true _ c.if-not-numbers_ok.true-raw) ∙ c.numbers_ok.ensures) refl refl
     ∙ by_kind_lem c.args.own c.args.s
 
 pub returns-then-not-source_ok : goal.returns-then-not-source_ok
 returns-then-not-source_ok c =
     three {a = true} {b = false} (sym (not-false _ c.if-not-numbers_ok.false-raw) ∙ c.numbers_ok.ensures)
-    (sym (not_true _ c.if-not-source_ok.true-raw) ∙ c.source_ok.ensures) refl
+    (sym (not-true _ c.if-not-source_ok.true-raw) ∙ c.source_ok.ensures) refl
     ∙ by_kind_lem c.args.own c.args.s
 
 pub returns-then-not-rts_ok : goal.returns-then-not-rts_ok
@@ -26,7 +26,7 @@ returns-then-not-rts_ok c =
     let a = c.args in
     three {a = true} {b = true} (sym (not-false _ c.if-not-numbers_ok.false-raw) ∙ c.numbers_ok.ensures)
     (sym (not-false _ c.if-not-source_ok.false-raw) ∙ c.source_ok.ensures)
-    (and_same {a = false} (sym (not_true _ c.if-not-rts_ok.true-raw) ∙ c.rts_ok.ensures) refl
+    (and_same {a = false} (sym (not-true _ c.if-not-rts_ok.true-raw) ∙ c.rts_ok.ensures) refl
     ∙ ap (kind_ok a.own a.s.announced a.s.progress) (sym c.in-Rts.is))
     ∙ by_kind_lem a.own a.s
 

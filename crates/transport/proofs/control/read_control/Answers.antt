@@ -42,6 +42,6 @@ returns-in-15 c = with_control _ 15 _ c.if-bytes-ne12.false c.in-15.is c.read_ab
 
 pub returns-in_default : goal.returns-in_default
 returns-in_default c =
-    let other = c.in_default.rest in
+    let other = c.in_default.in_default-own.rest in
     with_control _ _ _ c.if-bytes-ne12.false refl
     (ap Refused c.not_receivers.ensures ∙ with_other c.args.bytes.now _ other.0.0.0.1 other.0.0.1 other.0.1 other.1)

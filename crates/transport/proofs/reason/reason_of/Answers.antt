@@ -37,4 +37,4 @@ returns-in-27 c = ap reason_of (sym c.in-27.is)
 
 pub returns-in_default : goal.returns-in_default
 unfolding reason_of
-returns-in_default c = other _ c.in_default.rest.0.0.0.0.1 c.in_default.rest.0.0.0.1 c.in_default.rest.0.0.1 c.in_default.rest.0.1 c.in_default.rest.1
+returns-in_default c = other _ c.in_default.in_default-own.rest.0.0.0.0.1 c.in_default.in_default-own.rest.0.0.0.1 c.in_default.in_default-own.rest.0.0.1 c.in_default.in_default-own.rest.0.1 c.in_default.in_default-own.rest.1

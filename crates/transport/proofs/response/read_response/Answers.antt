@@ -45,4 +45,4 @@ returns-in-15 c = with_control _ _ _ 15 _ c.if-frame-ne12.false c.session_key-ke
 pub returns-in_default : goal.returns-in_default
 returns-in_default c =
     with_control _ _ _ _ _ c.if-frame-ne12.false c.session_key-key.ensures refl
-    (with_other _ c.args.frame.now _ c.in_default.rest.0.0.1 c.in_default.rest.0.1 c.in_default.rest.1)
+    (with_other _ c.args.frame.now _ c.in_default.in_default-own.rest.0.0.1 c.in_default.in_default-own.rest.0.1 c.in_default.in_default-own.rest.1)
