@@ -43,7 +43,7 @@ class Function:
         """Whether a path can begin at a place: with its own step, or with what was passed at the start."""
         place = self.n["places"][i]
         if place[1] is None:
-            return alike(parts[0]) in ("args", "requires", "ranges", "type_inv", "lifetimes")
+            return alike(parts[0]) in ("args", "requires", "ranges", "type_inv", "lifetimes", "well_formed")
         arm = self.n["arms"][i]
         if arm and any([alike(p) for p in parts[: len(path) + 1]] == [alike(p) for p in [step, *path]] for _, step, path in arm[2]):
             return True
@@ -81,7 +81,7 @@ class Function:
                 if rest and rest[0] == a:
                     rest[0] = b
                     break
-            if callee and rest and rest[0] == "new":
+            if callee and rest and rest[0] in ("new", "auto") and rest[1:2] in (["0"], ["1"]):
                 k = 0
                 j = 1
                 while j < len(rest) and rest[j] == "1":
@@ -89,12 +89,12 @@ class Function:
                     j += 1
                 params = self.n["params"].get(callee, [])
                 if j < len(rest) and rest[j] == "0" and k < len(params):
-                    rest = ["new", params[k], *rest[j + 1:]]
+                    rest = [rest[0], params[k], *rest[j + 1:]]
                 else:
                     self.said(f"new of {callee}: {text}")
             return ".".join(["c", new, *rest])
         if self.n["places"][i][1] is None:
-            return ".".join(["c", *parts])
+            return ".".join(["c", parts[0].replace("-", "_"), *parts[1:]])
         self.said(f"no step {parts[0]} at {name}: {text}")
         return ".".join(["c", *parts])
 
@@ -165,7 +165,7 @@ def declarations(text):
 
 def declared_in(block):
     names = re.findall(r"^ *(?:(?:abbrev|unfoldable|pub|pattern)\s+)*([^\s:(){}]+)\s*(?:\{[^}]*\})?\s+:\s", block, re.M)
-    names += re.findall(r"^(?:data|record) (\S+)", block, re.M)
+    names += re.findall(r"^(?:pub )?(?:data|record) (\S+)", block, re.M)
     return [n for n in names if n != "module"]
 
 
@@ -288,14 +288,15 @@ def convert(folder, crate, path, names, said):
             for item in m.group(2).split(","):
                 item = item.strip()
                 name = item.split(" as ")[-1].strip()
-                if name in used or ("◌" in name and all(p in used or p in body for p in name.split("◌") if p)):
+                if name in used or (name == "[]" and "[]" in body) or ("◌" in name and all(p in used or p in body for p in name.split("◌") if p)):
                     items.append(item)
             if items:
                 out.append(f"use {m.group(1)}.{{{', '.join(items)}}}")
         return out
 
     if invariants:
-        public = ["\n".join(re.sub(r"^((?:abbrev |unfoldable )?)(?!pub )(\S+\s*(?:\{[^}]*\})?\s+:\s)", r"\1pub \2", l) if not l.startswith(("unfolding", "--", "module", " ")) else (re.sub(r"^(  )((?:abbrev |unfoldable )?)(?!pub )([^\s:(){}]+\s*(?:\{[^}]*\})?\s+:\s)", r"\1\2pub \3", l) if h.startswith("module") else l) for l in h.split("\n")) for h in to_invariants]
+        to_invariants = [re.sub(r"^(record|data) ", r"pub \1 ", h, flags=re.M) for h in to_invariants]
+        public = ["\n".join(re.sub(r"^((?:abbrev |unfoldable )?)(?!pub )(\S+\s*(?:\{[^}]*\})?\s+:\s)", r"\1pub \2", l) if not l.startswith(("unfolding", "--", "module", " ", "pub ")) else (re.sub(r"^(  )((?:abbrev |unfoldable )?)(?!pub )([^\s:(){}]+\s*(?:\{[^}]*\})?\s+:\s)", r"\1\2pub \3", l) if h.startswith("module") else l) for l in h.split("\n")) for h in to_invariants]
         body = "\n\n".join(public + invariants)
         head = needed(kept + ([rules] if "rules" in words(body) else []), body) + [f"use {module}.Given as goal"]
         open(os.path.join(folder, "Invariants.antt"), "w", encoding="utf-8").write("\n".join(head) + "\n\n" + body + "\n")

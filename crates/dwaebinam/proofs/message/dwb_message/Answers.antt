@@ -1,4 +1,5 @@
 use mathlib.Core.Path.{ap, ◌∙◌}
+use mathlib.Core.List.{[]}
 use Rattle.answer.specs.declared.place.Place.{Place}
 use Rattle.answer.specs.Places.{place_bytes}
 use Rattle.dwaebinam.proofs.Messages.{front_short, front_put}

@@ -31,7 +31,7 @@ copy-requires-in-loop-i c =
     let r = group_room q c.args.out.now c.loop-i.out c.loop-i.i c.loop-i.at c.loop-i.from c.loop-i.taken c.requires.0 c.requires.1.0 c.loop-i.invariant c.loop-i-test.true in
     let l = same_long q c.args.out.now c.loop-i.out c.loop-i.i c.loop-i.at c.loop-i.from c.loop-i.taken c.requires.0 c.requires.1.0 c.loop-i.invariant in
     let f = data_room q c.args.out.now c.loop-i.out c.loop-i.i c.loop-i.at c.loop-i.from c.loop-i.taken c.requires.0 c.requires.1.0 c.loop-i.invariant c.loop-i-test.true in
-    (omega (arith, c.copy.auto.0, c.size-n.ensures.0), omega (arith, c.size-n.ensures.0))
+    (omega (arith, c.copy.auto.out, c.size-n.ensures.0), omega (arith, c.size-n.ensures.0))
 
 pub copy-requires-in-loop-i-2 : goal.copy-requires-in-loop-i-2
 copy-requires-in-loop-i-2 c =
@@ -39,7 +39,7 @@ copy-requires-in-loop-i-2 c =
     let r = group_room q c.args.out.now c.loop-i.out c.loop-i.i c.loop-i.at c.loop-i.from c.loop-i.taken c.requires.0 c.requires.1.0 c.loop-i.invariant c.loop-i-test.true in
     let l = same_long q c.args.out.now c.loop-i.out c.loop-i.i c.loop-i.at c.loop-i.from c.loop-i.taken c.requires.0 c.requires.1.0 c.loop-i.invariant in
     let f = trailer_room q c.args.out.now c.loop-i.out c.loop-i.i c.loop-i.at c.loop-i.from c.loop-i.taken c.requires.0 c.requires.1.0 c.loop-i.invariant c.loop-i-test.true in
-    (omega (arith, c.copy-in-loop-i.auto.0, c.copy.auto.0, c.size-m.ensures.0, c.size-n.ensures.0), omega (arith, c.size-m.ensures.0))
+    (omega (arith, c.copy-in-loop-i.auto.out, c.copy.auto.out, c.size-m.ensures.0, c.size-n.ensures.0), omega (arith, c.size-m.ensures.0))
 
 pub overflow_add-at-in-loop-i-3 : goal.overflow_add-at-in-loop-i-3
 overflow_add-at-in-loop-i-3 c =

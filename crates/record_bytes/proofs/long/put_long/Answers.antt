@@ -1,6 +1,7 @@
 use native.Mathlib.Omega.{arith}
 use Prim.Native.Nat.{◌%◌, ◌/◌}
 use mathlib.Core.Path.{refl}
+use mathlib.Core.List.{[]}
 use Rattle.words.specs.Words.{low4}
 use Rattle.words.specs.Laws.{next_field}
 use Rattle.record_bytes.proofs.long.put_long.Goals as goal

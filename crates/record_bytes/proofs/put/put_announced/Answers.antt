@@ -1,7 +1,7 @@
 use Prim.Native.Nat.{ℕ, ◌+◌}
 use native.Mathlib.Omega.{arith}
 use mathlib.Core.Path.{ap, ◌∙◌}
-use mathlib.Core.List.{List, ◌∷◌, ◌++◌}
+use mathlib.Core.List.{List, [], ◌∷◌, ◌++◌}
 use lib.Seq.{paste}
 use Rattle.words.specs.Laws.{next_field}
 use Rattle.record_bytes.specs.Places.{total_place, segments_place, max_place, pgn_place}

@@ -1,6 +1,6 @@
 use Prim.Native.Nat.{ℕ, ◌+◌}
 use native.Mathlib.Omega.{arith}
-use mathlib.Core.List.{List, ◌∷◌, ◌++◌}
+use mathlib.Core.List.{List, [], ◌∷◌, ◌++◌}
 use Rattle.record_bytes.specs.Places.{taken_place, taken_high_place, missing_place, requests_place}
 use Rattle.record_bytes.specs.Longs.{low8}
 use Rattle.words.specs.Words.{low4}

@@ -1,7 +1,7 @@
 use Prim.Native.Nat.{ℕ}
 use native.Mathlib.Omega.{arith}
 use mathlib.Core.Path.{refl}
-use mathlib.Core.List.{List, ◌∷◌, ◌++◌}
+use mathlib.Core.List.{List, [], ◌∷◌, ◌++◌}
 use Rattle.words.specs.Laws.{next_field}
 use Rattle.record_bytes.specs.Places.{own_place, first_limit_place, second_limit_place, last_place}
 use Rattle.record_bytes.specs.Layout.{head_bytes}

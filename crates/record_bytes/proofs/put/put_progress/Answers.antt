@@ -1,7 +1,7 @@
 use Prim.Native.Nat.{ℕ, ◌+◌}
 use native.Mathlib.Omega.{arith}
 use mathlib.Core.Path.{◌≡◌, ap, ◌∙◌}
-use mathlib.Core.List.{List, ◌∷◌, ◌++◌}
+use mathlib.Core.List.{List, [], ◌∷◌, ◌++◌}
 use lib.Seq.{paste}
 use Rattle.record_bytes.specs.Places.{next_place, granted_place, mark_place, wait_place, taken_place, progress_length, progress_place}
 use Rattle.record_bytes.specs.Layout.{gathered_bytes}

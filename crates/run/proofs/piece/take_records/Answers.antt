@@ -10,7 +10,7 @@ loop-receiver-init c = walk_start _ _ _ _ _ _
 pub returns-in_default : goal.returns-in_default
 returns-in_default c =
     walk_last _ _ _ _ _ _ _ _ _ _ _ _ c.loop-receiver.invariant _ _ _ _ _ (sym c.has_room.ensures ∙ c.loop-receiver-test.true)
-    c.in_default.keys2 c.take_record-step.ensures c.why.ensures
+    c.in_default.in_default-own.keys2 c.take_record-step.ensures c.why.ensures
 
 pub overflow_add-good : goal.overflow_add-good
 overflow_add-good c =
@@ -26,8 +26,8 @@ loop-receiver-smaller c =
 pub loop-receiver-preserved : goal.loop-receiver-preserved
 loop-receiver-preserved c =
     walk-on _ _ _ _ _ _ _ _ _ _ _ _ c.loop-receiver.invariant _ _ _ _ _
-    (took_by _ _ _ _ _ c.in-Took.is c.take_record-step.ensures) c.take_record-step.auto.1.1.0
-    c.take_record-step.auto.1.1.1.0 c.take_record-step.auto.1.1.1.1.0
+    (took_by _ _ _ _ _ c.in-Took.is c.take_record-step.ensures) c.take_record-step.auto.receiver
+    c.take_record-step.auto.store c.take_record-step.auto.lines
 
 pub returns : goal.returns
 returns c = walk_full _ _ _ _ _ _ _ _ _ _ _ _ c.loop-receiver.invariant (sym c.has_room.ensures ∙ c.loop-receiver-test.false)

@@ -14,10 +14,10 @@ overflow_add-place c =
 
 pub write_last-next-requires : goal.write_last-next-requires
 write_last-next-requires c =
-    last_fits _ _ 0 _ _ _ _ _ _ _ _ c.take_records-went.ensures c.take_records-went.auto.1.1.1.1.0
+    last_fits _ _ 0 _ _ _ _ _ _ _ _ c.take_records-went.ensures c.take_records-went.auto.lines
 
 pub returns : goal.returns
 returns c =
     by_short _ _ _ _ _ _ _ _ _ _ _ _ (sym c.is_long.ensures ∙ c.if-is_long.false)
     (takes_of _ _ _ _ _ _ _ _ _ _ _ c.take_records-went.ensures _ _ _ refl c.write_last-next.ensures
-    (c.write_last-next.auto.0 ∙ c.take_records-went.auto.1.1.1.1.0))
+    (c.write_last-next.auto.lines ∙ c.take_records-went.auto.lines))

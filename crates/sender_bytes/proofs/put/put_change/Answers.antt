@@ -1,6 +1,6 @@
 use Prim.Native.Nat.{ℕ}
 use mathlib.Core.Path.{sym, ap, ◌∙◌}
-use mathlib.Core.List.{◌∷◌}
+use mathlib.Core.List.{[], ◌∷◌}
 use lib.Seq.{paste}
 use Rattle.sender_bytes.specs.Layout.{changed}
 use Rattle.sender_bytes.proofs.put.put_change.Goals as goal

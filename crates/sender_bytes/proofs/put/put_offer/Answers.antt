@@ -1,6 +1,6 @@
 use Prim.Native.Nat.{ℕ, ◌+◌}
 use native.Mathlib.Omega.{arith}
-use mathlib.Core.List.{List, ◌∷◌, ◌++◌}
+use mathlib.Core.List.{List, [], ◌∷◌, ◌++◌}
 use Rattle.words.specs.Words.{low4}
 use Rattle.words.specs.Laws.{next_field}
 use Rattle.sender_bytes.specs.Places.{total_place, pgn_place}

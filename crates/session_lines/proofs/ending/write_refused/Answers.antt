@@ -1,6 +1,6 @@
 use Prim.Native.Nat.{ℕ}
 use mathlib.Core.Path.{sym, ap}
-use mathlib.Core.List.{◌∷◌}
+use mathlib.Core.List.{[], ◌∷◌}
 use Rattle.text.specs.Line.{line_of, placed_by}
 use Rattle.session_lines.specs.Lines.{refused_word}
 use Rattle.session_lines.proofs.ending.write_refused.Goals as goal

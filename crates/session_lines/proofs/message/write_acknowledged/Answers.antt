@@ -1,6 +1,6 @@
 use Prim.Native.Nat.{ℕ}
 use mathlib.Core.Path.{sym, ap}
-use mathlib.Core.List.{List, ◌++◌}
+use mathlib.Core.List.{List, [], ◌++◌}
 use Rattle.text.specs.Line.{line_of, placed_by}
 use Rattle.session_lines.specs.Lines.{session_line, eoma_word, msg_word}
 use Rattle.session_lines.proofs.message.write_acknowledged.Goals as goal

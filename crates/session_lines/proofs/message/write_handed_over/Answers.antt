@@ -1,5 +1,5 @@
 use mathlib.Core.Path.{ap}
-use mathlib.Core.List.{◌++◌}
+use mathlib.Core.List.{[], ◌++◌}
 use Rattle.text.specs.Line.{placed_by}
 use mathlib.Core.Bool.{cond}
 use Rattle.transport.specs.declared.Kind.{Kind}

@@ -7,7 +7,7 @@ use Rattle.text.specs.Put.{put}
 use Rattle.text.proofs.decimal.put_number.Given as goal
 
 -- In a turn with i next: the digits after i are in place, and those before it are those of what is left.
-record Writing (d : List ℕ) (at n end : ℕ) (out : List ℕ) (left i : ℕ) : Type 0 where
+pub record Writing (d : List ℕ) (at n end : ℕ) (out : List ℕ) (left i : ℕ) : Type 0 where
   low : at ≤ i
   high : i ≤ end
   ends : end ≡ at + length (decimal n)

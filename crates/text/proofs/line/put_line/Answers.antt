@@ -27,7 +27,7 @@ bounds-out-third c =
 pub overflow_add-result : goal.overflow_add-result
 overflow_add-result c =
     let h = (line-put _ _ _ _ _ c.requires _ _ (put_copied _ _ _ c.copy.ensures) _ _ c.put_fields-second.ensures _ _ c.put_octets-third.ensures).place in
-    omega (arith, h, c.requires, c.well-formed.0.0)
+    omega (arith, h, c.requires, c.well_formed.0.0)
 
 pub shape_of-out : goal.shape_of-out
 shape_of-out c =

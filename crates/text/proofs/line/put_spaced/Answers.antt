@@ -1,6 +1,6 @@
 use native.Mathlib.Omega.{arith}
 use mathlib.Core.Path.{◌∙◌}
-use mathlib.Core.List.{◌∷◌}
+use mathlib.Core.List.{[], ◌∷◌}
 use lib.ListN.{length-set}
 use Rattle.text.specs.Put.{put_set, put_then}
 use Rattle.text.specs.Line.{spaced}
@@ -16,7 +16,7 @@ put_number-requires c = simp length-set (omega (arith, c.requires))
 
 pub shape_of-out : goal.shape_of-out
 unfolding spaced
-shape_of-out c = c.put_number.auto.0 ∙ simp length-set
+shape_of-out c = c.put_number.auto.out ∙ simp length-set
 
 pub returns : goal.returns
 unfolding spaced
