@@ -6,7 +6,7 @@ use lib.ListN.{length, set, drop, length-drop}
 use lib.Seq.{drop_at, drop-length}
 use Rattle.text.specs.Decimal.{width_of, decimal, digits_of, length_decimal, length_digits}
 use Rattle.text.specs.Put.{put, PutAt, put_nil, put_before, length_put}
-use Rattle.text.proofs.decimal.put_number.Invariants.{Writing, done, ends, high, low, room, todo}
+use Rattle.text.proofs.decimal.put_number.Invariants.{Writing}
 use Rattle.text.proofs.decimal.put_number.Goals as goal
 
 module _ (d : List ℕ) (at n end : ℕ) where

@@ -8,12 +8,12 @@ use Rattle.text.proofs.decimal.put_number.Given as goal
 
 -- In a turn with i next: the digits after i are in place, and those before it are those of what is left.
 pub record Writing (d : List ℕ) (at n end : ℕ) (out : List ℕ) (left i : ℕ) : Type 0 where
-  low : at ≤ i
-  high : i ≤ end
-  ends : end ≡ at + length (decimal n)
-  room : end ≤ length d
-  done : out ≡ put d i (drop (i - at) (decimal n))
-  todo : decimal n ≡ digits_of (i - at) left ++ drop (i - at) (decimal n)
+  pub low : at ≤ i
+  pub high : i ≤ end
+  pub ends : end ≡ at + length (decimal n)
+  pub room : end ≤ length d
+  pub done : out ≡ put d i (drop (i - at) (decimal n))
+  pub todo : decimal n ≡ digits_of (i - at) left ++ drop (i - at) (decimal n)
 
 abbrev pub invariant-loop-i : goal.invariant-loop-i
 invariant-loop-i l = Writing l.initial.out l.at l.n l.end l.out l.left l.i
