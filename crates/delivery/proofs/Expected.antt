@@ -3,7 +3,7 @@
 use Prim.Native.Nat.{ℕ, suc, ◌+◌, ◌-◌, ◌/◌, ◌%◌, ◌≤◌, ◌<◌}
 use mathlib.Core.Path.{◌≡◌, refl, ap, ◌∙◌}
 use mathlib.Core.Logic.{◌⊎◌, inl, inr}
-use mathlib.Core.Bool.{true, false, cond, not, ◌&&◌, and_false}
+use mathlib.Core.Bool.{true, false, cond, not, ◌&&◌, and-false}
 use mathlib.Core.Option.{Option, none, some}
 use mathlib.Core.List.{List, ◌∷◌}
 use native.Mathlib.Omega.{arith}
@@ -135,7 +135,7 @@ next_piece m j = let z : j + 1 ≡ suc j = omega arith in rw z
 module _ (s : Setting) (fair : Fair s) (last : ℕ) (q : Silence) (j g : ℕ) (l : j < count s) where
   in_turn : (κ : Kind) → out_of_turn (session_at κ s q j g) (j + 1) ≡ false
   unfolding out_of_turn session_at
-  in_turn κ = rw (length_cut (length s.message) j s.message, le-ltb (j + 1) (j + 1) (omega arith)) (and_false (not (is_rts (session_at κ s q j g).told.kind)))
+  in_turn κ = rw (length_cut (length s.message) j s.message, le-ltb (j + 1) (j + 1) (omega arith)) (and-false (not (is_rts (session_at κ s q j g).told.kind)))
 
   -- it is in order and whole, so it is added
   in_order : (κ : Kind) → received s (some (session_at κ s q j g)) last (segment_wire (key_in s) s.message (j + 1))

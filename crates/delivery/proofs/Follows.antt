@@ -2,7 +2,7 @@
 -- Whatever a reading ends.
 use Prim.Native.Nat.{ℕ}
 use mathlib.Core.Path.{◌≡◌, refl, sym, ap, ◌∙◌, subst}
-use mathlib.Core.Bool.{Bool, true, false, cond, not, ◌&&◌, ◌||◌, and_false}
+use mathlib.Core.Bool.{Bool, true, false, cond, not, ◌&&◌, ◌||◌, and-false}
 use mathlib.Core.Option.{Option, none, some}
 use mathlib.Core.List.{List, [], ◌∷◌, ◌++◌, append-nil}
 use lib.Dec.{eqb}
@@ -133,7 +133,7 @@ free_end t (Moves c) = refl
 free_end t Ends = refl
 
 well_is : (x : State) (st : Step) → (x ≡ Closed → is_good st.reply ≡ false) → (is_free (after x st.change) && is_good st.reply) ≡ link.ends_well st
-well_is Closed st h = rw (h refl) (and_false (is_free (after Closed st.change)) ∙ sym (and_false (is_end st.change)))
+well_is Closed st h = rw (h refl) (and-false (is_free (after Closed st.change)) ∙ sym (and-false (is_end st.change)))
 well_is (Open t) st h = ap (λ (b : Bool). b && is_good st.reply) (free_end t st.change)
 
 module _ (s : Setting) (x : State) (p : Sender) (st : Step) (a : Stepped) (c : Called (key_in s) st p a) (is : state_for (key_in s) p ≡ x) (bad : x ≡ Closed → is_good st.reply ≡ false) where

@@ -3,7 +3,7 @@
 use Prim.Native.Nat.{ℕ, zero, suc, ◌+◌, ◌*◌, ◌-◌, ◌%◌, ◌≤◌, ◌<◌}
 use mathlib.Core.Path.{◌≡◌, refl, sym, ap, ◌∙◌}
 use mathlib.Core.Logic.{◌⊎◌, inl, inr}
-use mathlib.Core.Bool.{Bool, true, false, cond, not, and_false, false≢true}
+use mathlib.Core.Bool.{Bool, true, false, cond, not, and-false, false≢true}
 use mathlib.Core.Option.{none, some}
 use mathlib.Core.List.{List, [], ◌∷◌}
 use native.Mathlib.Omega.{arith}
@@ -128,7 +128,7 @@ module _ (s : Setting) (fair : Fair s) (last : ℕ) (q : Silence) (g : ℕ) (xs 
 
   asked_before : (r : ℕ) → spent (sess s q g (suc r) xs) (j + 1) ≡ false
   unfolding sess announcement_for spent is_rts
-  asked_before r = rw (ne_eqb (suc r) 0 (λ e. omega arith), and_false (ltb (j + 1) (count s))) (and_false (eqb (j + 1) g))
+  asked_before r = rw (ne_eqb (suc r) 0 (λ e. omega arith), and-false (ltb (j + 1) (count s))) (and-false (eqb (j + 1) g))
 
   pub on_segment_any : (r : ℕ) → j < g → g ≤ count s → is_taken (j + 1) xs ≡ false → SegmentIn s last q g r xs j
   unfolding sess announcement_for adds spent is_rts

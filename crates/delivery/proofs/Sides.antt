@@ -7,7 +7,7 @@ use mathlib.Core.List.{List, [], ◌∷◌, ◌++◌, map, append-nil}
 use native.Mathlib.Omega.{arith}
 use lib.Dec.{eqb, leb}
 use lib.ListN.{length}
-use borrow.Author.Tests.{eqb-false, not_true, not-false}
+use borrow.Author.Tests.{eqb-false, not-true, not-false}
 use mathlib.Mathlib.Data.Bool.Basic.{and_elim_left, and_elim_right}
 use Rattle.laws.specs.Bools.{clash, not_both, not_passed, both, by_test, passed, either_way, cond_true, cond_false}
 use Rattle.laws.specs.Choice.{each_of}
@@ -293,7 +293,7 @@ routed own id n ρ e =
     let c = passed (not (route_taken own (identifier_of id))) (verdict.Refused NotTaken) _ (verdict.Control ρ) (λ z. no_refusal z) b.1 in
     let d = passed (eqb (identifier_of id).pf 37) (verdict.MultiPg (route_of (identifier_of id))) _ (verdict.Control ρ) (λ z. absurd (let w : ◌≡◌ {A = ℕ} 0 1 = cc in omega arith)) c.1 in
     let way : ρ ≡ route_of (identifier_of id) = control_only (eqb (identifier_of id).pf 77) (eqb (identifier_of id).pf 78) (route_of (identifier_of id)) ρ d.1 in
-    record { way = way; node = rw way (not_true (eqb (identifier_of id).sa.0 255) (tests (not-false (route_taken own (identifier_of id)) c.0))) }
+    record { way = way; node = rw way (not-true (eqb (identifier_of id).sa.0 255) (tests (not-false (route_taken own (identifier_of id)) c.0))) }
   where
     no_refusal : {n : _} → verdict.Refused n ≡ verdict.Control ρ → ⊥
     no_refusal z = let w : ◌≡◌ {A = ℕ} 0 1 = cc in omega arith

@@ -8,7 +8,7 @@ use native.Mathlib.Omega.{arith}
 use native.Mathlib.Decide.{ℕ_discrete}
 use lib.ListN.{length, get_or, set, get_or-map}
 use lib.Seq.{get_or-set_same, get_or-set_other}
-use borrow.Author.Tests.{not_true}
+use borrow.Author.Tests.{not-true}
 use mathlib.Mathlib.Data.Bool.Basic.{and_elim_left, and_elim_right, or_inr}
 use Rattle.laws.specs.Bools.{clash, not_passed, both, by_test}
 use Rattle.transport.specs.declared.Key.{Key}
@@ -112,7 +112,7 @@ ok_head (Open t) l e = and_elim_left (transfer_ok t) (not (any_holds t.offer.key
 alone_head : (x : State) (l : Transfers) → one_ok x l ≡ true → (κ : Key) → holds κ x ≡ true → any_holds κ l ≡ false
 alone_head Closed l e κ h = absurd (clash false h refl)
 alone_head (Open t) l e κ h =
-    rw (← same_keys t.offer.key κ h) (not_true (any_holds t.offer.key l) (and_elim_right (transfer_ok t) (not (any_holds t.offer.key l)) e))
+    rw (← same_keys t.offer.key κ h) (not-true (any_holds t.offer.key l) (and_elim_right (transfer_ok t) (not (any_holds t.offer.key l)) e))
 
 pub ok_all : (l : Transfers) → transfers_ok l ≡ true → AllOk l
 ok_all [] e i = refl

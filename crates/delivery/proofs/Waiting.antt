@@ -3,7 +3,7 @@
 use Prim.Native.Nat.{ℕ, ◌+◌, ◌*◌, ◌-◌, ◌≤◌, ◌<◌}
 use mathlib.Core.Path.{◌≡◌, refl, ap, ◌∙◌}
 use mathlib.Core.Logic.{inl, inr}
-use mathlib.Core.Bool.{Bool, true, false, cond, not, ◌&&◌, ◌||◌, or-false, or-true, and_false}
+use mathlib.Core.Bool.{Bool, true, false, cond, not, ◌&&◌, ◌||◌, or-false, or-true, and-false}
 use mathlib.Core.List.{[], ◌∷◌}
 use native.Mathlib.Omega.{arith}
 use native.Mathlib.Decide.{dec_lt}
@@ -135,7 +135,7 @@ module _ (s : Setting) (fair : Fair s) (mark last i : ℕ) where
       let same : a + 1 + c - 1 ≡ a + c = omega arith in
       rw (
         eq-eqb s.pgn s.pgn refl,
-        and_false (again r),
+        and-false (again r),
         ne_eqb c 0 (λ e. omega arith),
         ne_eqb (a + 1) 0 (λ e. omega arith),
         le-ltb (count s + 1) (a + 1 + c) (omega arith),

@@ -7,7 +7,7 @@ use mathlib.Core.List.{List, [], ◌++◌, map}
 use lib.Dec.{eqb}
 use lib.ListN.{length, get_or, set, take, drop, replicate, length-map, get_or-map}
 use lib.Seq.{paste}
-use borrow.Author.Tests.{eqb-true, ne_eqb, not_true, not-false}
+use borrow.Author.Tests.{eqb-true, ne_eqb, not-true, not-false}
 use Rattle.laws.specs.Choice.{then, else}
 use Rattle.laws.specs.Maps.{filled, filled_turn, filled_all}
 use Rattle.frame.specs.declared.refusal.Refusal.TheVariants.{OutOfBounds}
@@ -141,7 +141,7 @@ module _ (b₀ : List ℕ) (limits : IdleLimits) (t : ℕ) where
 module _ (b : List ℕ) (t : ℕ) (m : List ℕ) (w : Bool) (ew : w ≡ ready_in b (length m)) where
   pub reading_refused : not w ≡ true → ◌≡◌ {A = ReadingAnswer × List ℕ} (record { answer = acceptance.Refused OutOfBounds; ends = replicate 8 stays }, b) (reading_in b t m)
   unfolding reading_in
-  reading_refused h = else (ready_in b (length m)) _ _ _ (sym ew ∙ not_true _ h) refl
+  reading_refused h = else (ready_in b (length m)) _ _ _ (sym ew ∙ not-true _ h) refl
 
   module _ (h : not w ≡ false) where
     pub reading_ready : Ready b (length m)

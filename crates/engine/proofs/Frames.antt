@@ -5,7 +5,7 @@ use mathlib.Core.Bool.{Bool, true, false, not, ◌&&◌}
 use mathlib.Core.List.{List, [], ◌∷◌}
 use lib.Dec.{eqb}
 use lib.ListN.{length, get_or}
-use borrow.Author.Tests.{not_true, not-false}
+use borrow.Author.Tests.{not-true, not-false}
 use Rattle.laws.specs.Choice.{then, else, each_of}
 use Rattle.frame.specs.Judge.{judged}
 use Rattle.frame.specs.declared.Address.{Address}
@@ -30,7 +30,7 @@ ready_step b m e = (each_of (is_record b ∷ (eqb (length m) 32768 && in_bounds 
 module _ (b : List ℕ) (id : ℕ) (d m : List ℕ) (t : Bool) (et : t ≡ ready_in b (length m)) where
   pub not_ready : not t ≡ true → ◌≡◌ {A = InBytes} (Refused OutOfBounds, (b, m)) (frame_in b id d m)
   unfolding frame_in
-  not_ready h = else (ready_in b (length m)) _ _ _ (sym et ∙ not_true _ h) refl
+  not_ready h = else (ready_in b (length m)) _ _ _ (sym et ∙ not-true _ h) refl
 
   module _ (h : not t ≡ false) where
     pub is_ready_lem : Ready b (length m)

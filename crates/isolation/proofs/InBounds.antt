@@ -1,7 +1,7 @@
 -- A record that keeps step is in bounds, and every record in bounds is one that some world of rules explains.
 use Prim.Native.Nat.{ℕ, zero, suc, ◌+◌, ◌*◌, ◌-◌, ◌/◌, ◌≤◌, ◌<◌}
 use mathlib.Core.Path.{◌≡◌, refl, sym, ap, ap₂, ◌∙◌, subst}
-use mathlib.Core.Bool.{Bool, true, false, cond, not, ◌&&◌, ◌||◌, and_false}
+use mathlib.Core.Bool.{Bool, true, false, cond, not, ◌&&◌, ◌||◌, and-false}
 use mathlib.Core.Option.{none}
 use mathlib.Core.List.{List, [], ◌∷◌}
 use native.Mathlib.Omega.{arith}
@@ -9,7 +9,7 @@ use native.Mathlib.Decide.{ℕ_discrete}
 use lib.Dec.{leb}
 use lib.ListN.{length, take, drop}
 use lib.Seq.{take-take, drop-drop}
-use borrow.Author.Tests.{eq-eqb, ne_eqb, leb-true, leb-false, le-leb, lt-leb, le-ltb, not_true}
+use borrow.Author.Tests.{eq-eqb, ne_eqb, leb-true, leb-false, le-leb, lt-leb, le-ltb, not-true}
 use Rattle.laws.specs.Bools.{by_test, cond_true, cond_false}
 use Rattle.laws.specs.Windows.{drop_take}
 use Rattle.segments.specs.Laws.{none_past_in, agreed}
@@ -62,7 +62,7 @@ alone_true n (is.Open s) l b h =
 
 true_alone : (x : State) (l : Slots) → not (state_twin x l) ≡ true → (k : ℕ) → holds k x ≡ true → any k l ≡ false
 true_alone is.Closed l h k e = absurd (clash (holds k is.Closed) e (holds_free k))
-true_alone (is.Open s) l h k e = any_same k l ∙ rw (← open_key k s e) (not_true (any_holds s.announced.key l) h)
+true_alone (is.Open s) l h k e = any_same k l ∙ rw (← open_key k s e) (not-true (any_holds s.announced.key l) h)
 
 pub slots_true : (own : Address) → own.0 ≤ 253 → (l : Slots) → Unique l → ((i : ℕ) → state_ok own (at l i) ≡ true) → slots_ok own l ≡ true
 unfolding slots_ok
@@ -138,7 +138,7 @@ module _ (f : ℕ → Bool) (i : ℕ) (m : List ℕ) (total segments : ℕ) (mos
           → is_taken n (cond t (record { number = suc c; bytes = take (due total (suc c)) (drop (4096 * i + 60 * c) m) } ∷ pieces_of f i m total c) (pieces_of f i m total c)) ≡ (leb n (suc c) && f n)
       go true e (yes z) ih = rw (eq-eqb (suc c) n z, ← z, le-leb (suc c) (suc c) (omega arith), e)
       go true e (no z) ih = rw (ne_eqb (suc c) n z, past z) ih
-      go false e (yes z) ih = none_below (f n) ih z ∙ sym (ap (λ (b : Bool). leb n (suc c) && b) (ap f (sym z) ∙ e) ∙ and_false (leb n (suc c)))
+      go false e (yes z) ih = none_below (f n) ih z ∙ sym (ap (λ (b : Bool). leb n (suc c) && b) (ap f (sym z) ∙ e) ∙ and-false (leb n (suc c)))
       go false e (no z) ih = rw (past z) ih
 
   gathered_of : (c : ℕ) → c ≤ segments → Gathered total segments (part i m) (pieces_of f i m total c)

@@ -6,7 +6,7 @@ use mathlib.Core.List.{List, [], ◌∷◌}
 use native.Mathlib.Omega.{arith}
 use lib.Dec.{eqb, leb}
 use lib.ListN.{length, replicate}
-use borrow.Author.Tests.{eqb-true, eqb-false, eq-eqb, ne_eqb, leb-true, le-leb, ltb-true, lt-ltb, not_true}
+use borrow.Author.Tests.{eqb-true, eqb-false, eq-eqb, ne_eqb, leb-true, le-leb, ltb-true, lt-ltb, not-true}
 use Rattle.laws.specs.Choice.{each_of, all_of_lem}
 use Rattle.segments.specs.declared.Segments.{Segments}
 use Rattle.segments.specs.Digits.{digit}
@@ -98,7 +98,7 @@ module _ (own : Address) (s : Session) where
         pgn = pgn_same s.announced.pgn ∙ h.agreed.form;
         max = λ r. h.agreed.grants (sym (kind_same s.announced.kind) ∙ r);
         sa = leb-true s.announced.key.sa.0 253 t.0;
-        sa_other = eqb-false s.announced.key.sa.0 own.0 (not_true (eqb s.announced.key.sa.0 own.0) t.1.0);
+        sa_other = eqb-false s.announced.key.sa.0 own.0 (not-true (eqb s.announced.key.sa.0 own.0) t.1.0);
         da = rw (kind_same s.announced.kind) (eqb-true s.announced.key.da.0 (cond (is_rts s.announced.kind) own.0 255) t.1.1.0);
         session = leb-true s.announced.key.session.0 15 t.1.1.1.0;
         gathered = λ r. gathered_in s.progress s.announced.segments.0 (few h.agreed.fits h.agreed.count) (h.reached.gathered (sym (kind_same s.announced.kind) ∙ r));

@@ -1,7 +1,7 @@
 -- The keys that are open, counted over all keys, are the slots that are open.
 use Prim.Native.Nat.{ℕ, zero, suc, ◌≤◌, ◌<◌}
 use mathlib.Core.Path.{◌≡◌, refl, sym, ap, ◌∙◌}
-use mathlib.Core.Bool.{and_false, Bool, true, false, cond, not, ◌&&◌, ◌||◌}
+use mathlib.Core.Bool.{and-false, Bool, true, false, cond, not, ◌&&◌, ◌||◌}
 use mathlib.Core.List.{[], ◌∷◌}
 use native.Mathlib.Omega.{arith}
 use native.Mathlib.Decide.{ℕ_discrete}
@@ -83,7 +83,7 @@ count_open n k s l b a = go (ℕ_discrete (key_number s.announced.key) k)
     q j = any j l && not (eqb j k)
 
     same : key_number s.announced.key ≡ k → (j : ℕ) → Dec (j ≡ k) → p j ≡ q j
-    same e j (yes z) = rw (eq-eqb j k z) (and_false (eqb (key_number s.announced.key) j || any j l) ∙ sym (and_false (any j l)))
+    same e j (yes z) = rw (eq-eqb j k z) (and-false (eqb (key_number s.announced.key) j || any j l) ∙ sym (and-false (any j l)))
     same e j (no z) = rw (ne_eqb (key_number s.announced.key) j (λ y. z (sym y ∙ e)))
 
     go : Dec (key_number s.announced.key ≡ k) → count p n ≡ cond (eqb (key_number s.announced.key) k) (count q n) (suc (count q n))

@@ -7,7 +7,7 @@ use mathlib.Core.List.{List}
 use native.Mathlib.Omega.{arith}
 use lib.Dec.{eqb, leb, ltb}
 use lib.ListN.{length, length-drop}
-use borrow.Author.Tests.{ltb-true, eqb-true, eqb-false, ne_eqb, not_true, leb-true, leb-false, lt-ltb, lt-leb}
+use borrow.Author.Tests.{ltb-true, eqb-true, eqb-false, ne_eqb, not-true, leb-true, leb-false, lt-ltb, lt-leb}
 use Rattle.frame.specs.declared.Address.{Address}
 use Rattle.frame.specs.declared.judge.Route.{Route}
 use Rattle.frame.specs.declared.judge.Verdict.{Verdict}
@@ -190,14 +190,14 @@ sa_same : (sa : ℕ) → sa < 256 → ltb sa 254 ≡ (not (eqb sa 254) && not (e
 sa_same sa h = same_test (ltb sa 254) (not (eqb sa 254) && not (eqb sa 255))
     (λ e. let z : sa < 254 = ltb-true sa 254 e in both (not (eqb sa 254)) (not (eqb sa 255)) (ap not (ne_eqb sa 254 (λ y. omega arith))) (ap not (ne_eqb sa 255 (λ y. omega arith))))
     (λ e.
-    let a : sa ≡ 254 → ⊥ = eqb-false sa 254 (not_true (eqb sa 254) (and_left (not (eqb sa 254)) (not (eqb sa 255)) e)) in
-    let b : sa ≡ 255 → ⊥ = eqb-false sa 255 (not_true (eqb sa 255) (and_right (not (eqb sa 254)) (not (eqb sa 255)) e)) in
+    let a : sa ≡ 254 → ⊥ = eqb-false sa 254 (not-true (eqb sa 254) (and_left (not (eqb sa 254)) (not (eqb sa 255)) e)) in
+    let b : sa ≡ 255 → ⊥ = eqb-false sa 255 (not-true (eqb sa 255) (and_right (not (eqb sa 254)) (not (eqb sa 255)) e)) in
     lt-ltb sa 254 (omega arith))
 
 range_same : (id : ℕ) → ltb id 536870912 ≡ not (leb 536870912 id)
 range_same id = same_test (ltb id 536870912) (not (leb 536870912 id))
     (λ e. let z : id < 536870912 = ltb-true id 536870912 e in ap not (lt-leb 536870912 id (omega arith)))
-    (λ e. let z : id < 536870912 = leb-false 536870912 id (not_true (leb 536870912 id) e) in lt-ltb id 536870912 z)
+    (λ e. let z : id < 536870912 = leb-false 536870912 id (not-true (leb 536870912 id) e) in lt-ltb id 536870912 z)
 
 pub taken_same : (own : Address) (id : ℕ) (d : List ℕ) → F.taken own id d ≡ (not (leb 536870912 id) && (is_length (length d) && route_taken own (identifier_of id)))
 unfolding F.taken
@@ -252,7 +252,7 @@ frame_mine v id d b small e =
       taken = record {
         da = rw e₂ da;
         sa = omega arith;
-        foreign = rw e₁ (not_true (eqb (identifier_of id).sa.0 v.own.0) other);
+        foreign = rw e₁ (not-true (eqb (identifier_of id).sa.0 v.own.0) other);
         session = omega arith;
       };
     }

@@ -2,7 +2,7 @@
 use Prim.Native.Nat.{ℕ, zero, suc}
 use mathlib.Core.Path.{◌≡◌, refl, sym, ap, ◌∙◌, subst}
 use mathlib.Core.Logic.{◌⊎◌, inl, inr}
-use mathlib.Core.Bool.{and_false, Bool, true, false, cond}
+use mathlib.Core.Bool.{and-false, Bool, true, false, cond}
 use mathlib.Core.Option.{Option, none, some}
 use mathlib.Core.List.{List, map}
 use native.Mathlib.Omega.{arith}
@@ -244,9 +244,9 @@ refused_bounds own limits first h = rw (go (values_ok own limits) h)
 pub refused_opening_frame : (own : Address) (limits : IdleLimits) (first : ℕ) → ((opened own limits first).answer ≡ Accepted → ⊥) → (id : ℕ) (d m : List ℕ)
     → let r : Receiver = (opened own limits first).receiver in frame_all r id d m ≡ (refused r OutOfBounds, m)
 unfolding frame_all
-refused_opening_frame own limits first h id d m = rw (refused_bounds own limits first h, and_false (eqb (length m) 32768))
+refused_opening_frame own limits first h id d m = rw (refused_bounds own limits first h, and-false (eqb (length m) 32768))
 
 pub refused_opening_reading : (own : Address) (limits : IdleLimits) (first : ℕ) → ((opened own limits first).answer ≡ Accepted → ⊥) → (t : ℕ) (m : List ℕ)
     → let r : Receiver = (opened own limits first).receiver in reading_step r t m ≡ record { next = r; answer = acceptance.Refused OutOfBounds; ends = replicate 8 stays }
 unfolding reading_step
-refused_opening_reading own limits first h t m = rw (refused_bounds own limits first h, and_false (eqb (length m) 32768))
+refused_opening_reading own limits first h t m = rw (refused_bounds own limits first h, and-false (eqb (length m) 32768))

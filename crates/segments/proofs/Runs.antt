@@ -1,7 +1,7 @@
 -- A run of missing segments, by the lowest digit that is set from its start on.
 use Prim.Native.Nat.{ℕ, ◌+◌, ◌-◌, ◌/◌, ◌%◌, ◌^◌, ◌≤◌, ◌<◌, min}
 use mathlib.Core.Path.{◌≡◌, refl, sym, ap, ◌∙◌}
-use mathlib.Core.Bool.{Bool, true, false, cond, ◌&&◌, and_false}
+use mathlib.Core.Bool.{Bool, true, false, cond, ◌&&◌, and-false}
 use native.Mathlib.Nat.{mod-lt}
 use native.Mathlib.Omega.{arith}
 use lib.Dec.{eqb, leb, ltb}
@@ -124,7 +124,7 @@ module _ (s : Segments) (n c m : ℕ) where
 
   pub asked_past : c < n → 0 ≡ run_of s n c m
   asked_past b =
-      ap (λ (t : Bool). cond t (run_from s n (min m (c + 1 - n))) 0) (sym (and_false (leb 1 n)))
+      ap (λ (t : Bool). cond t (run_from s n (min m (c + 1 - n))) 0) (sym (and-false (leb 1 n)))
       ∙ ap (λ (t : Bool). cond (leb 1 n && t) (run_from s n (min m (c + 1 - n))) 0) (sym (lt-leb n c b))
 
   pub asked : (r k : ℕ) → 1 ≤ n → n ≤ c → k ≡ min m (c - (n - 1)) → r ≡ run_from s n k → r ≡ run_of s n c m

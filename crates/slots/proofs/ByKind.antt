@@ -1,7 +1,7 @@
 -- The bounds of an open session, as the code tests them and as they are said.
 use Prim.Native.Nat.{◌+◌}
 use mathlib.Core.Path.{◌≡◌, refl, sym, ap, ◌∙◌}
-use mathlib.Core.Bool.{Bool, true, false, cond, not, ◌&&◌, and-true, and_false, and_assoc}
+use mathlib.Core.Bool.{Bool, true, false, cond, not, ◌&&◌, and-true, and-false, and_assoc}
 use lib.Dec.{eqb, leb}
 use Rattle.segments.specs.Model.{agrees}
 use Rattle.frame.specs.declared.Address.{Address}
@@ -15,15 +15,15 @@ use Rattle.slots.specs.ByKind.{numbers_ok, source_ok, kind_ok}
 
 last_first : (g q l h : Bool) → ((q && (l && h)) && g) ≡ (g && q && l && h)
 last_first true q l h = and-true (q && (l && h)) ∙ sym (and_assoc q l h)
-last_first false q l h = and_false (q && (l && h))
+last_first false q l h = and-false (q && (l && h))
 
 -- n: the numbers; k: SA; s: the session number; d: the DA; m: MAX SGMTS; q, l, h: requests and the last granted; g: the record
 by_rts : (n k s d m q l h g : Bool)
     → (n && (k && s) && ((d && (m && (q && (l && h)))) && g)) ≡ (n && m && (k && d && s) && (g && q && l && h))
 by_rts false k s d m q l h g = refl
-by_rts true k s true false q l h g = and_false (k && s)
-by_rts true k s false false q l h g = and_false (k && s)
-by_rts true true s false true q l h g = and_false s
+by_rts true k s true false q l h g = and-false (k && s)
+by_rts true k s false false q l h g = and-false (k && s)
+by_rts true true s false true q l h g = and-false s
 by_rts true false s false true q l h g = refl
 by_rts true false s true true q l h g = refl
 by_rts true true s true true q l h g = ap (λ (t : Bool). s && t) (last_first g q l h)
@@ -33,7 +33,7 @@ by_bam : (n k s d x y w : Bool) → (n && (k && s) && (d && (x && (y && w)))) �
 by_bam false k s d x y w = refl
 by_bam true true s true x y w = ap (λ (t : Bool). s && t) (sym (and_assoc x y w))
 by_bam true false s true x y w = refl
-by_bam true true s false x y w = and_false s
+by_bam true true s false x y w = and-false s
 by_bam true false s false x y w = refl
 
 module _ (own : Address) (s : Session) where

@@ -2,7 +2,7 @@
 use Rattle.std.specs.Prelude.{ℕ, zero, suc, ◌+◌, ◌-◌, ◌<◌, ◌≤◌, leb, Bool, true, false, not, ◌≡◌, refl, List, [], ◌∷◌, ◌++◌, length, get_or, set, take, drop}
 use Rattle.std.proofs.Common.{add_assoc, add-one, arith, le-leb, leb-true, sym, ap, ◌∙◌, append_assoc, length-append, length-drop, take_at, drop_at, drop-drop, length-take-le}
 use Rattle.std.proofs.Math.Decide.{dec_le}
-use Rattle.std.proofs.lemmas.Bool.{lt-leb, not_true, not-false}
+use Rattle.std.proofs.lemmas.Bool.{lt-leb, not-true, not-false}
 use Rattle.laws.specs.Choice.{then, else}
 use Rattle.laws.specs.Pastes.{paste_whole}
 use Rattle.std.proofs.Math.Seq.{paste, paste-suc}
@@ -111,7 +111,7 @@ module _ (d : List ℕ) (at : ℕ) (s : List ℕ) {need : ℕ} {room : Bool} (si
 
   pub written_none : not room ≡ true → NumberWritten d at s NoRoom d
   written_none h =
-      let e : has_room d at s ≡ false = sym told_room ∙ not_true room h in
+      let e : has_room d at s ≡ false = sym told_room ∙ not-true room h in
       record { answer = else (has_room d at s) _ _ _ e refl; bytes = else (has_room d at s) _ _ _ e refl }
 
   pub written_all : {next : ℕ} {out : List ℕ} → not room ≡ false → Put d at s next out → NumberWritten d at s (Next next) out

@@ -3,7 +3,7 @@ use Rattle.std.specs.Prelude.{ℕ, ◌+◌, ◌≤◌, ◌<◌, ◌≡◌, refl,
 use Rattle.std.proofs.Common.{arith, ap, ltb-true, ltb-false, leb-true, eqb-true, le-leb, eq-eqb, ne_eqb}
 use Rattle.std.proofs.Math.Bool.{true}
 use Rattle.std.proofs.Math.Dec.{eqb}
-use Rattle.std.proofs.lemmas.Bool.{eqb-false, not_true, not-false}
+use Rattle.std.proofs.lemmas.Bool.{eqb-false, not-true, not-false}
 use Rattle.laws.specs.Bools.{both, implied, implies, either_way}
 use Rattle.laws.specs.Choice.{each_of, all_of_lem}
 use Rattle.frame.specs.Pgn.{low_byte_ok, pgn_ok}
@@ -71,8 +71,8 @@ offer_in o e =
     let d = each_of (destination_tests o.key) t.0 in
     let l = length_facts o.total.0 t.1.1.0 in
     record {
-      real = eqb-false _ _ (not_true _ d.0);
-      foreign = eqb-false _ _ (not_true _ d.1.0);
+      real = eqb-false _ _ (not-true _ d.0);
+      foreign = eqb-false _ _ (not-true _ d.1.0);
       session = leb-true _ _ d.1.1.0;
       form = t.1.0;
       some = l.0;

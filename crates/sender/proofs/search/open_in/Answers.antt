@@ -1,0 +1,21 @@
+use Prim.Native.Nat.{ℕ, ◌+◌, ◌-◌}
+use native.Mathlib.Omega.{arith}
+use mathlib.Core.Path.{◌≡◌, ap, ◌∙◌}
+use lib.ListN.{take, drop}
+use Rattle.transfer.specs.declared.State.TheVariants.{Open}
+use Rattle.sender_bytes.specs.Places.{transfer_length}
+use Rattle.sender_bytes.specs.Layout.{own_at, transfer_at}
+use Rattle.sender.specs.Held.{opened}
+use Rattle.sender.proofs.search.open_in.Goals as goal
+
+pub returns : goal.returns
+returns c =
+    let a = c.args in
+    let b = a.bytes.now in
+    let at : ℕ = c.transfer_place-at.result in
+    let e : at + transfer_length - at ≡ transfer_length = omega arith in
+    ap Open
+    (c.transfer_at.ensures
+    ∙ ap (λ (n : ℕ). transfer_at (own_at b) (take n (drop at b))) e
+    ∙ ap (λ (n : ℕ). transfer_at (own_at b) (take transfer_length (drop n b))) c.transfer_place-at.ensures)
+    ∙ opened b a.i c.requires.1 c.requires.2

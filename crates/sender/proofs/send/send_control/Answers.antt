@@ -1,0 +1,8 @@
+use Rattle.sender.proofs.Laid.{control_laid}
+use borrow.Author.Rules.{rules}
+use Rattle.sender.proofs.send.send_control.Goals as goal
+
+pub returns : goal.returns
+returns c =
+    let a = c.args in
+    control_laid a.id a.reply a.t4 a.out.now _ (search rules) c.copy.ensures

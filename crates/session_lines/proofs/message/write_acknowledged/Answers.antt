@@ -1,0 +1,11 @@
+use Prim.Native.Nat.{ℕ}
+use mathlib.Core.Path.{sym, ap}
+use mathlib.Core.List.{List, [], ◌++◌}
+use Rattle.text.specs.Line.{line_of, placed_by}
+use Rattle.session_lines.specs.Lines.{session_line, eoma_word, msg_word}
+use Rattle.session_lines.proofs.message.write_acknowledged.Goals as goal
+
+pub returns : goal.returns
+returns c =
+    placed_by (ap (λ (l : List ℕ). session_line eoma_word c.args.m.key [] ++ line_of msg_word (l ++ c.args.bytes.now))
+    (sym c.message_numbers-fields.ensures)) c.write_two.ensures

@@ -1,0 +1,4 @@
+use Rattle.transport.proofs.eoms.read_status.Goals as goal
+
+pub returns : goal.returns
+returns c = cc
