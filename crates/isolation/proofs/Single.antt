@@ -1,6 +1,7 @@
 -- One session decides as its rules do. Only this file knows what a session does.
 use Prim.Native.Nat.{ℕ, suc, ◌+◌, ◌*◌, ◌-◌, ◌/◌, ◌≤◌, ◌<◌, min}
 use mathlib.Core.Path.{◌≡◌, refl, sym, ap, ap₂, ◌∙◌, subst}
+use lib.Seq.{paste}
 use mathlib.Core.Logic.{◌⊎◌, inl, inr}
 use mathlib.Core.Bool.{and_assoc, or_comm, Bool, true, false, cond, not, ◌&&◌, ◌||◌}
 use mathlib.Core.Option.{Option, none, some}
@@ -460,8 +461,11 @@ module _ (v : Values) (k i : ℕ) (low : suc i ≤ 8) (m : List ℕ) (whole : le
       pieces =
           let size : length (part i m) ≡ 4096 = length_part m whole i low in
           let f : ρ.told.total.0 ≤ 4096 = most in
-          rw (due_same total n turn.low, part_paste m whole i low (60 * (n - 1)) (data_at d) (due_of total n) fits enough)
-          (gathered_more total segments n (part i m) (data_at d) count_fact turn.low turn.high (omega arith) enough ρ.pieces rel.pieces new)
+          subst (λ (p : List ℕ). Gathered total segments p (record { number = n; bytes = take (due total n) (data_at d) } ∷ ρ.pieces))
+          (sym (part_paste m whole i low (60 * (n - 1)) (data_at d) (due_of total n) fits enough))
+          (subst (λ (z : ℕ). Gathered total segments (paste (part i m) (60 * (n - 1)) (data_at d) (due_of total n)) (record { number = n; bytes = take z (data_at d) } ∷ ρ.pieces))
+          (sym (due_same total n turn.low))
+          (gathered_more total segments n (part i m) (data_at d) count_fact turn.low turn.high (omega arith) enough ρ.pieces rel.pieces new))
 
       -- in the record of an RTS, and below the next of a BAM
       known : (j : ℕ) → 1 ≤ j → is_taken j (record { number = n; bytes = take (due total n) (data_at d) } ∷ ρ.pieces) ≡ already_in (record_of k ρ' x') j

@@ -30,7 +30,7 @@ fn next_at(frame: &[u8], at: usize) -> Next
 }
 
 // After the group at a place; where there is none, the place itself.
-fn rest_at_lem(frame: &[u8], at: usize) -> usize
+fn rest_at(frame: &[u8], at: usize) -> usize
     ensures { result ≡ rest_at frame.now at }
 {
     match next_at(frame, at) {
@@ -58,7 +58,7 @@ pub fn next<'a>(r: Reader<'a>) -> Next
 pub fn rest<'a>(r: Reader<'a>) -> Reader<'a>
     ensures { result ≡ rest_of r.entry }
 {
-    let at = rest_at_lem(r.frame, r.at);
+    let at = rest_at(r.frame, r.at);
     Reader { frame: r.frame, at }
 }
 

@@ -10,7 +10,6 @@ use lib.ListN.{length, take, drop, length-append, length-drop}
 use lib.Seq.{length-take-le}
 use borrow.Author.Tests.{leb-true, leb-false}
 use denote.Enum.Declared.{tag_of}
-use types.Run.{OneOf}
 use Rattle.laws.specs.Bools.{by_test, cond_true, cond_false}
 use Rattle.text.specs.Line.{fits}
 use Rattle.text.specs.Put.{put, put_nil, PutAt, put_then}
@@ -65,20 +64,14 @@ module _ (b m o : List ℕ) (p : ℕ) where
 
 -- ---- a step that is the last
 
-not_took : {A : Type 0} (next q : ℕ) → OneOf (1 ∷ 2 ∷ 3 ∷ 4 ∷ []) (tag_of the_type (step.Took next q)) → A
-not_took next q (inl e) = absurd (let z : ◌≡◌ {A = ℕ} 0 1 = e in omega arith)
-not_took next q (inr (inl e)) = absurd (let z : ◌≡◌ {A = ℕ} 0 2 = e in omega arith)
-not_took next q (inr (inr (inl e))) = absurd (let z : ◌≡◌ {A = ℕ} 0 3 = e in omega arith)
-not_took next q (inr (inr (inr e))) = absurd (let z : ◌≡◌ {A = ℕ} 0 4 = e in omega arith)
-
 module _ (d b m o : List ℕ) (k at p : ℕ) (enough : p + record_room ≤ length o) where
-  ends_by_lem : (t : Turn (List ℕ)) → turn_at in_bytes b m d at ≡ t → (s : Step) {b' m' o' : List ℕ} → OneOf (1 ∷ 2 ∷ 3 ∷ 4 ∷ []) (tag_of the_type s)
+  ends_by_lem : (t : Turn (List ℕ)) → turn_at in_bytes b m d at ≡ t → (s : Step) {b' m' o' : List ℕ} → ((x y : ℕ) → s ≡ step.Took x y → ⊥)
       → ◌≡◌ {A = Left} (s, (b', (m', o'))) (step_of t b m o p) → Stops d (lying b m k at) (length o) p (why_of s) b' m' × (o' ≡ o)
   ends_by_lem (took x n) f s {b'} {m'} {o'} h e =
       let l : List ℕ = x.lines in
       let answer : s ≡ cond (fits o p l) (step.Took n (p + length l)) step.Short = ap (λ (z : Left). z.0) e in
       by_test (fits o p l)
-      (λ g. not_took n (p + length l) (subst (λ (z : Step). OneOf (1 ∷ 2 ∷ 3 ∷ 4 ∷ []) (tag_of the_type z)) (answer ∙ cond_true (fits o p l) _ _ g) h))
+      (λ g. absurd (h n (p + length l) (answer ∙ cond_true (fits o p l) _ _ g)))
       (λ g.
       let same : step.Short ≡ s = sym (answer ∙ cond_false (fits o p l) _ _ g) in (
         subst (λ (z : Step). Stops d (lying b m k at) (length o) p (why_of z) b' m') same
@@ -189,7 +182,7 @@ module _ (d : List ℕ) (k : ℕ) (b m o : List ℕ) (p : ℕ) where
         }
 
     pub walk_last : (s : Step) (r : Stop) (b₂ m₂ o₂ : List ℕ) → leb (q + record_room) (length o₁) ≡ true
-        → OneOf (1 ∷ 2 ∷ 3 ∷ 4 ∷ []) (tag_of the_type s) → ◌≡◌ {A = Left} (s, (b₂, (m₂, o₂))) (step_of (turn_at in_bytes b₁ m₁ d at) b₁ m₁ o₁ q) → r ≡ why_of s
+        → ((x y : ℕ) → s ≡ step.Took x y → ⊥) → ◌≡◌ {A = Left} (s, (b₂, (m₂, o₂))) (step_of (turn_at in_bytes b₁ m₁ d at) b₁ m₁ o₁ q) → r ≡ why_of s
         → Taken d k b m o p (record { at = at; put = q; records = good; stop = r }) b₂ m₂ o₂
     walk_last s r b₂ m₂ o₂ e h g f =
         let (stops, left) = ends_by_lem d b₁ m₁ o₁ good at q (leb-true _ _ e) (turn_at in_bytes b₁ m₁ d at) refl s h g in

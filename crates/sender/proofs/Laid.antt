@@ -6,16 +6,15 @@ use mathlib.Core.Option.{Option, none, some}
 use mathlib.Core.List.{List, [], ◌∷◌, ◌++◌}
 use lib.ListN.{length, take, drop}
 use lib.Seq.{paste, take_all}
-use denote.Enum.Declared.{tag_of}
-use types.Run.{OneOf, miss}
+use Rattle.frame.specs.declared.SegmentNumber.{SegmentNumber}
 use Rattle.transport.specs.declared.Key.{Key}
 use Rattle.transport.specs.Heads.{laid_in, data_id}
 use Rattle.transport.specs.Segments.{segment_bytes}
 use Rattle.answer.specs.Answers.{Wire}
 use Rattle.session.specs.Segments.{due_of}
+use Rattle.transfer.specs.declared.Offer.{Offer}
 use Rattle.transfer.specs.declared.Reply.{Reply}
 use Rattle.transfer.specs.declared.Reply.TheVariants as reply
-use Rattle.transfer.specs.contracts.Reply.{the_type}
 use Rattle.transfer.specs.Sends.{piece_of, sends, segment_wire}
 use Rattle.sender.specs.Calls.{Announces, Sendable, quietly, sent_by, sent_in}
 
@@ -33,8 +32,8 @@ same_control r out p q = ap₂ (λ (n : ℕ) (x : List ℕ). sent_by (some (n, x
 pub quiet_laid : (k : Key) (m : List ℕ) (r : Reply) (out : List ℕ) → sends k m r ≡ none → (quietly r, out) ≡ sent_in k m r out
 quiet_laid k m r out h = ap (λ (w : Option Wire). sent_by w r out) (sym h)
 
-pub quiet_announced : (k : Key) (m : List ℕ) (r : Reply) → OneOf (1 ∷ 2 ∷ 3 ∷ 4 ∷ 5 ∷ 6 ∷ 7 ∷ 8 ∷ []) (tag_of the_type r) → Announces r → sends k m r ≡ none
-quiet_announced k m (reply.Announced o) t a = absurd (miss (1 ∷ 2 ∷ 3 ∷ 4 ∷ 5 ∷ 6 ∷ 7 ∷ 8 ∷ []) 0 tt t)
+pub quiet_announced : (k : Key) (m : List ℕ) (r : Reply) → ((x : Offer) → r ≡ reply.Announced x → ⊥) → Announces r → sends k m r ≡ none
+quiet_announced k m (reply.Announced o) t a = absurd (t o refl)
 quiet_announced k m (reply.Segment n) t a = absurd a
 quiet_announced k m (reply.Status o) t a = absurd a
 quiet_announced k m reply.NothingDue t a = refl
@@ -44,16 +43,17 @@ quiet_announced k m (reply.Aborted κ) t a = refl
 quiet_announced k m (reply.Ended e) t a = absurd a
 quiet_announced k m (reply.Refused n) t a = refl
 
-pub quiet_asked : (k : Key) (m : List ℕ) (r : Reply) → OneOf (0 ∷ 3 ∷ 4 ∷ 5 ∷ 6 ∷ 7 ∷ 8 ∷ []) (tag_of the_type r) → Sendable m r → sends k m r ≡ none
-quiet_asked k m (reply.Announced o) t a = absurd a
-quiet_asked k m (reply.Segment n) t a = absurd (miss (0 ∷ 3 ∷ 4 ∷ 5 ∷ 6 ∷ 7 ∷ 8 ∷ []) 1 tt t)
-quiet_asked k m (reply.Status o) t a = absurd (miss (0 ∷ 3 ∷ 4 ∷ 5 ∷ 6 ∷ 7 ∷ 8 ∷ []) 2 tt t)
-quiet_asked k m reply.NothingDue t a = refl
-quiet_asked k m reply.Granted t a = refl
-quiet_asked k m (reply.Acknowledged κ) t a = refl
-quiet_asked k m (reply.Aborted κ) t a = refl
-quiet_asked k m (reply.Ended e) t a = absurd a
-quiet_asked k m (reply.Refused n) t a = refl
+pub quiet_asked : (k : Key) (m : List ℕ) (r : Reply) → ((x : SegmentNumber) → r ≡ reply.Segment x → ⊥)
+    → ((x : Offer) → r ≡ reply.Status x → ⊥) → Sendable m r → sends k m r ≡ none
+quiet_asked k m (reply.Announced o) t u a = absurd a
+quiet_asked k m (reply.Segment n) t u a = absurd (t n refl)
+quiet_asked k m (reply.Status o) t u a = absurd (u o refl)
+quiet_asked k m reply.NothingDue t u a = refl
+quiet_asked k m reply.Granted t u a = refl
+quiet_asked k m (reply.Acknowledged κ) t u a = refl
+quiet_asked k m (reply.Aborted κ) t u a = refl
+quiet_asked k m (reply.Ended e) t u a = absurd a
+quiet_asked k m (reply.Refused n) t u a = refl
 
 -- a data frame
 pub segment_laid : (k : Key) (m : List ℕ) (n id len : ℕ) (r : Reply) (out o : List ℕ) → id ≡ data_id k → (len, o) ≡ laid_in (segment_bytes k n (piece_of m n)) out

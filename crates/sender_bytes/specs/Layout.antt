@@ -77,19 +77,19 @@ pub record Sender : Type 0 where
 abbrev pub piece_at : List ℕ → ℕ → List ℕ
 piece_at b i = take transfer_length (drop (transfer_place i) b)
 
-abbrev pub field_own : List ℕ → Address
-field_own b = record { 0 = get_or b own_place 0 }
+abbrev pub own_at : List ℕ → Address
+own_at b = record { 0 = get_or b own_place 0 }
 
 unfoldable pub transfers_at : List ℕ → List State
 transfers_at b =
-    state_at (field_own b) (piece_at b 0)
-    ∷ state_at (field_own b) (piece_at b 1)
-    ∷ state_at (field_own b) (piece_at b 2)
-    ∷ state_at (field_own b) (piece_at b 3)
+    state_at (own_at b) (piece_at b 0)
+    ∷ state_at (own_at b) (piece_at b 1)
+    ∷ state_at (own_at b) (piece_at b 2)
+    ∷ state_at (own_at b) (piece_at b 3)
     ∷ []
 
 abbrev pub sender_at : List ℕ → Sender
-sender_at b = record { own = field_own b; limit = low32 b limit_place; last = low32 b last_place; transfers = transfers_at b }
+sender_at b = record { own = own_at b; limit = low32 b limit_place; last = low32 b last_place; transfers = transfers_at b }
 
 -- ---- what a call changes of it
 

@@ -27,7 +27,7 @@ write_groups-requires c =
     let q : Request = (record { services = c.args.services.now; formats = c.args.formats.now; pgns = c.args.pgns.now; lengths = c.args.lengths.now; trailers = c.args.trailers.now; joined = c.args.«data».now; assured = c.args.assured.now }) in
     let e : request_fits q (length c.args.out.now) ≡ true = fitted_true q (length c.args.out.now) c.fitting-bytes.result c.fitting-bytes.ensures c.if-bytes-gt64.false in
     let m : Met q (length c.args.out.now) = request_met q (length c.args.out.now) e in
-    (m.even, (omega (arith, m.small, m.output), omega (arith, m.output)))
+    record { even = m.even; trailers_in_bounds = (omega (arith, m.small, m.output), omega (arith, m.output)) }
 
 pub overflow_sub-n : goal.overflow_sub-n
 overflow_sub-n c =

@@ -17,12 +17,12 @@ loop-i-preserved c =
     let e = c.put_end.ensures in
     let o = c.put_end.new.out in (
       search rules,
-      ends_long end_bytes length_end a.t1 8 at.out o at.i _ at.invariant.0 at.invariant.1 (search rules) e,
+      ends_long end_bytes length_end a.ends 8 at.out o at.i _ at.invariant.0 at.invariant.1 (search rules) e,
       search rules,
-      ends_turn end_bytes length_end a.t1 8 at.out o at.i _ at.invariant.0 at.invariant.1 (search rules) e at.invariant.3,
+      ends_turn end_bytes length_end a.ends 8 at.out o at.i _ at.invariant.0 at.invariant.1 (search rules) e at.invariant.3,
     )
 
 pub returns : goal.returns
 returns c =
     let at = c.loop-i in
-    ends_all end_bytes c.args.t1 8 at.out _ at.i at.invariant.0 at.invariant.1 (omega arith) at.invariant.3
+    ends_all end_bytes c.args.ends 8 at.out _ at.i at.invariant.0 at.invariant.1 (omega arith) at.invariant.3

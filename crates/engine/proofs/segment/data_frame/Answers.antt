@@ -10,8 +10,6 @@ use Rattle.engine.proofs.Cases.{by_case}
 use Rattle.engine.proofs.Frames.{seen_same}
 use Rattle.engine.proofs.segment.data_frame.Goals as goal
 
-pub data-frame-spec : {M : Type 1} → statement M
-
 pub segment-requires : goal.segment-requires
 segment-requires c = let p = c.requires in
     let h = subst (Fits c.args.bytes.now) c.in-Segment.is

@@ -7,9 +7,9 @@ use Rattle.packing.proofs.trailer.added_up.Given as goal
 abbrev pub invariant-loop-i : goal.invariant-loop-i
 invariant-loop-i l = (l.i ≤ length l.trailers)
     × (trailers_ok (drop l.i l.services) (drop l.i l.formats) (drop l.i l.trailers) ≡ trailers_ok l.services l.formats l.trailers)
-    × («data» + sum (drop l.i l.lengths) ≡ sum l.lengths)
+    × (l.data + sum (drop l.i l.lengths) ≡ sum l.lengths)
     × (l.tails + sum (drop l.i l.trailers) ≡ sum l.trailers)
-    × («data» ≤ 255 * l.i)
+    × (l.data ≤ 255 * l.i)
     × (l.tails ≤ 255 * l.i)
 
 abbrev pub decreases-loop-i : goal.decreases-loop-i

@@ -16,12 +16,12 @@ loop-i-preserved c =
     let o = c.put_slot.new.out in (
       search rules,
       search rules,
-      slots_long a.t1 a.out.now at.out o at.i _ at.invariant.0 at.invariant.2 (search rules) e,
+      slots_long a.slots a.out.now at.out o at.i _ at.invariant.0 at.invariant.2 (search rules) e,
       search rules,
-      slots_turn a.t1 a.out.now at.out o at.i _ at.invariant.0 at.invariant.2 (search rules) e at.invariant.4,
+      slots_turn a.slots a.out.now at.out o at.i _ at.invariant.0 at.invariant.2 (search rules) e at.invariant.4,
     )
 
 pub returns : goal.returns
 returns c =
     let at = c.loop-i in
-    slots_all c.args.t1 at.out _ at.i at.invariant.0 at.invariant.2 (omega arith) at.invariant.4
+    slots_all c.args.slots at.out _ at.i at.invariant.0 at.invariant.2 (omega arith) at.invariant.4

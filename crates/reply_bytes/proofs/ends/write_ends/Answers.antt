@@ -17,12 +17,12 @@ loop-i-preserved c =
     let e = c.put_end.ensures in
     let o = c.put_end.new.out in (
       search rules,
-      ends_long transfer_end_bytes length_transfer_end a.t1 4 at.out o at.i _ at.invariant.0 at.invariant.1 (search rules) e,
+      ends_long transfer_end_bytes length_transfer_end a.ends 4 at.out o at.i _ at.invariant.0 at.invariant.1 (search rules) e,
       search rules,
-      ends_turn transfer_end_bytes length_transfer_end a.t1 4 at.out o at.i _ at.invariant.0 at.invariant.1 (search rules) e at.invariant.3,
+      ends_turn transfer_end_bytes length_transfer_end a.ends 4 at.out o at.i _ at.invariant.0 at.invariant.1 (search rules) e at.invariant.3,
     )
 
 pub returns : goal.returns
 returns c =
     let at = c.loop-i in
-    ends_all transfer_end_bytes c.args.t1 4 at.out _ at.i at.invariant.0 at.invariant.1 (omega arith) at.invariant.3
+    ends_all transfer_end_bytes c.args.ends 4 at.out _ at.i at.invariant.0 at.invariant.1 (omega arith) at.invariant.3

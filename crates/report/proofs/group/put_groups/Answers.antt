@@ -4,7 +4,7 @@ use Rattle.report.proofs.Groups.{printing_start, printing_end, printing-room, pr
 use Rattle.report.proofs.group.put_groups.Goals as goal
 
 pub loop-group-init : goal.loop-group-init
-loop-group-init c = printing_start _ _ _ _ _ c.requires.0
+loop-group-init c = printing_start _ _ _ _ _ c.requires.first_value
 
 pub shape_of-out-in-End : goal.shape_of-out-in-End
 shape_of-out-in-End c = c.loop-group.invariant.going.same
@@ -14,7 +14,7 @@ returns-in-End c = printing_end _ _ _ _ _ _ _ c.loop-group.invariant (sym c.grou
 
 pub put_group-next-requires : goal.put_group-next-requires
 put_group-next-requires c =
-    printing-room _ _ _ _ _ _ _ c.loop-group.invariant c.requires.1 _ _ (sym c.group_at.ensures ∙ c.in-Given.is)
+    printing-room _ _ _ _ _ _ _ c.loop-group.invariant c.requires.frame_in_bounds _ _ (sym c.group_at.ensures ∙ c.in-Given.is)
 
 pub loop-group-smaller : goal.loop-group-smaller
 loop-group-smaller c =
@@ -22,5 +22,5 @@ loop-group-smaller c =
 
 pub loop-group-preserved : goal.loop-group-preserved
 loop-group-preserved c =
-    printing-on _ _ _ _ _ _ _ c.loop-group.invariant c.requires.1 _ _ (sym c.group_at.ensures ∙ c.in-Given.is) _ _
+    printing-on _ _ _ _ _ _ _ c.loop-group.invariant c.requires.frame_in_bounds _ _ (sym c.group_at.ensures ∙ c.in-Given.is) _ _
     c.put_group-next.ensures _ c.place_after-place.ensures

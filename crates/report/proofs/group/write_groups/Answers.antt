@@ -19,12 +19,12 @@ returns-in_default c =
 
 pub put_groups-requires : goal.put_groups-requires
 put_groups-requires c =
-    (
-      c.first_place-first.ensures,
-      left_room c.args.out.now c.args.at
+    record {
+      first_value = c.first_place-first.ensures;
+      frame_in_bounds = left_room c.args.out.now c.args.at
           (group_lines c.args.route (groups_of c.args.frame.now)) c.if-length-at.false _
-          (sym c.left_after_groups.ensures ∙ c.in-Enough.is),
-    )
+          (sym c.left_after_groups.ensures ∙ c.in-Enough.is);
+    }
 
 pub returns : goal.returns
 returns c =

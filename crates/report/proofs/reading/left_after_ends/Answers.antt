@@ -26,5 +26,5 @@ loop-i-preserved c =
     )
 
 pub returns : goal.returns
-returns c = count_out ends_lines slot_lines no_ends more_ends c.args.t2 _ _ c.loop-i.i c.loop-i.invariant.2
+returns c = count_out ends_lines slot_lines no_ends more_ends c.args.ends _ _ c.loop-i.i c.loop-i.invariant.2
     (omega (arith, c.loop-i-test.false, c.loop-i.invariant.1))

@@ -28,4 +28,4 @@ shape_of-out c = c.loop-i.invariant.2.same
 
 pub returns : goal.returns
 returns c =
-    walk_out ends_lines slot_lines no_ends more_ends _ _ c.args.t3 c.requires _ _ c.loop-i.i c.loop-i.invariant.2 (omega (arith, c.loop-i-test.false, c.loop-i.invariant.1))
+    walk_out ends_lines slot_lines no_ends more_ends _ _ c.args.ends c.requires _ _ c.loop-i.i c.loop-i.invariant.2 (omega (arith, c.loop-i-test.false, c.loop-i.invariant.1))

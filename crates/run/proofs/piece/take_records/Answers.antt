@@ -10,7 +10,7 @@ loop-receiver-init c = walk_start _ _ _ _ _ _
 pub returns-in_default : goal.returns-in_default
 returns-in_default c =
     walk_last _ _ _ _ _ _ _ _ _ _ _ _ c.loop-receiver.invariant _ _ _ _ _ (sym c.has_room.ensures ∙ c.loop-receiver-test.true)
-    c.in_default.in_default-own.keys2 c.take_record-step.ensures c.why.ensures
+    c.in_default.not-Took c.take_record-step.ensures c.why.ensures
 
 pub overflow_add-good : goal.overflow_add-good
 overflow_add-good c =

@@ -22,4 +22,4 @@ returns-in-Status c = let a = c.args in
 pub returns-in_default : goal.returns-in_default
 returns-in_default c = let a = c.args in
     ap (λ (s : Sent). (s, a.out.now)) c.quiet.ensures
-    ∙ quiet_laid a.key a.message.now a.reply a.out.now (quiet_asked a.key a.message.now a.reply c.in_default.in_default-own.keys3 c.requires.1)
+    ∙ quiet_laid a.key a.message.now a.reply a.out.now (quiet_asked a.key a.message.now a.reply c.in_default.not-Segment c.in_default.not-Status c.requires.1)

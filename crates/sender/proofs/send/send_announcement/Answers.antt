@@ -14,4 +14,4 @@ returns-in-Announced c k m = let a = c.args in
 
 pub returns-in_default : goal.returns-in_default
 returns-in_default c k m = let a = c.args in
-    ap (λ (s : Sent). (s, a.out.now)) c.quiet.ensures ∙ quiet_laid k m a.reply a.out.now (quiet_announced k m a.reply c.in_default.in_default-own.keys2 c.requires.1)
+    ap (λ (s : Sent). (s, a.out.now)) c.quiet.ensures ∙ quiet_laid k m a.reply a.out.now (quiet_announced k m a.reply c.in_default.not-Announced c.requires.1)

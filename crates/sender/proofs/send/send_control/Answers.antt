@@ -5,4 +5,4 @@ use Rattle.sender.proofs.send.send_control.Goals as goal
 pub returns : goal.returns
 returns c =
     let a = c.args in
-    control_laid a.id a.reply a.t4 a.out.now _ (search rules) c.copy.ensures
+    control_laid a.id a.reply a.bytes a.out.now _ (search rules) c.copy.ensures

@@ -2,7 +2,6 @@ use Rattle.sender.proofs.Laid.{segment_laid}
 use borrow.Author.Rules.{rules}
 use Rattle.sender.proofs.send.send_segment.Goals as goal
 
-data-id-requires c κs = search rules
 
 pub returns : goal.returns
 returns c = let a = c.args in

@@ -2,8 +2,6 @@ use native.Mathlib.Omega.{arith}
 use Rattle.transport.specs.Heads.{id_to}
 use Rattle.transport.proofs.head.data_id.Goals as goal
 
-pub data-id-spec : {M : Type 1} → statement M
-
 pub returns : goal.returns
 unfolding id_to
 returns c = omega arith

@@ -12,7 +12,7 @@ loop-g-init c =
 
 pub overflow_mul-count : goal.overflow_mul-count
 overflow_mul-count c =
-    let r = row_room c.args.frame.now c.args.out.now c.loop-g.out c.loop-g.auto c.loop-g.count c.loop-g.at c.requires.0 c.loop-g.invariant c.in-At.g
+    let r = row_room c.args.frame.now c.args.out.now c.loop-g.out c.loop-g.kept c.loop-g.count c.loop-g.at c.requires.0 c.loop-g.invariant c.in-At.g
     (sym c.step.ensures ∙ c.in-At.is) in
     omega arith
 
@@ -22,19 +22,19 @@ slice_bounds-keep-end c =
 
 pub keep-requires : goal.keep-requires
 keep-requires c =
-    let r = row_room c.args.frame.now c.args.out.now c.loop-g.out c.loop-g.auto c.loop-g.count c.loop-g.at c.requires.0 c.loop-g.invariant c.in-At.g
+    let r = row_room c.args.frame.now c.args.out.now c.loop-g.out c.loop-g.kept c.loop-g.count c.loop-g.at c.requires.0 c.loop-g.invariant c.in-At.g
     (sym c.step.ensures ∙ c.in-At.is) in
     (omega (arith, c.loop-g.invariant.long), omega (arith, c.loop-g.invariant.keeps))
 
 pub overflow_mul-count-in-At : goal.overflow_mul-count-in-At
 overflow_mul-count-in-At c =
-    let r = row_room c.args.frame.now c.args.out.now c.loop-g.out c.loop-g.auto c.loop-g.count c.loop-g.at c.requires.0 c.loop-g.invariant c.in-At.g
+    let r = row_room c.args.frame.now c.args.out.now c.loop-g.out c.loop-g.kept c.loop-g.count c.loop-g.at c.requires.0 c.loop-g.invariant c.in-At.g
     (sym c.step.ensures ∙ c.in-At.is) in
     omega arith
 
 pub write-requires : goal.write-requires
 write-requires c =
-    let r = row_room c.args.frame.now c.args.out.now c.loop-g.out c.loop-g.auto c.loop-g.count c.loop-g.at c.requires.0 c.loop-g.invariant c.in-At.g
+    let r = row_room c.args.frame.now c.args.out.now c.loop-g.out c.loop-g.kept c.loop-g.count c.loop-g.at c.requires.0 c.loop-g.invariant c.in-At.g
     (sym c.step.ensures ∙ c.in-At.is) in (
       omega (arith, c.loop-g.invariant.long),
       omega (arith, step_room c.args.frame.now c.loop-g.at c.in-At.g (sym c.step.ensures ∙ c.in-At.is), c.requires.0),
@@ -42,7 +42,7 @@ write-requires c =
 
 pub overflow_add-count : goal.overflow_add-count
 overflow_add-count c =
-    let r = row_room c.args.frame.now c.args.out.now c.loop-g.out c.loop-g.auto c.loop-g.count c.loop-g.at c.requires.0 c.loop-g.invariant c.in-At.g
+    let r = row_room c.args.frame.now c.args.out.now c.loop-g.out c.loop-g.kept c.loop-g.count c.loop-g.at c.requires.0 c.loop-g.invariant c.in-At.g
     (sym c.step.ensures ∙ c.in-At.is) in
     omega arith
 
@@ -57,12 +57,12 @@ loop-g-smaller c =
 pub loop-g-preserved : goal.loop-g-preserved
 loop-g-preserved c =
     subst (Filled c.args.frame.now c.args.out.now _ _ _) (sym c.end_of-at.ensures)
-    (filled_turn c.args.frame.now c.args.out.now c.loop-g.out c.loop-g.auto c.loop-g.count c.loop-g.at c.requires.0 c.loop-g.invariant c.in-At.g
+    (filled_turn c.args.frame.now c.args.out.now c.loop-g.out c.loop-g.kept c.loop-g.count c.loop-g.at c.requires.0 c.loop-g.invariant c.in-At.g
     (sym c.step.ensures ∙ c.in-At.is) _ _ c.keep.ensures c.write.ensures)
 
 pub returns-in-End : goal.returns-in-End
 returns-in-End c =
-    filled_end c.args.frame.now c.args.out.now c.loop-g.out c.loop-g.auto c.loop-g.count c.loop-g.at c.requires.0 c.loop-g.invariant
+    filled_end c.args.frame.now c.args.out.now c.loop-g.out c.loop-g.kept c.loop-g.count c.loop-g.at c.requires.0 c.loop-g.invariant
     (sym c.step.ensures ∙ c.in-End.is)
 
 pub slice_bounds-put_back-end : goal.slice_bounds-put_back-end
@@ -82,5 +82,5 @@ put_back-requires c =
 
 pub returns-in-Fault : goal.returns-in-Fault
 returns-in-Fault c =
-    filled_fault c.args.frame.now c.args.out.now c.loop-g.out c.loop-g.auto c.loop-g.count c.loop-g.at c.requires.0 c.loop-g.invariant _ _
+    filled_fault c.args.frame.now c.args.out.now c.loop-g.out c.loop-g.kept c.loop-g.count c.loop-g.at c.requires.0 c.loop-g.invariant _ _
     (sym c.step.ensures ∙ c.in-Fault.is) c.put_back.ensures
