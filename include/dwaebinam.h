@@ -1,4 +1,4 @@
-/* The data link's calls for a program in C. Link target/staticlib/libdwaebinam.a, which `rt staticlib dwaebinam` writes.
+/* The data link's calls for a program in C. Link target/staticlib/libdwaebinam.a, which tests/archive makes.
 
    A byte slice crosses as a pointer and a number of bytes, one after the other. Every call takes any values of its types; a pointer
    must be to as many bytes as the length beside it says, and two buffers of one call must not overlap. No call keeps a pointer. */

@@ -27,7 +27,7 @@ pub extern "C" fn dwb_pack(
     out: &mut [u8],
 ) -> usize
     ensures { (result, out.new) ≡ packed_in (record {
-      services = services.entry.now;
+      services = services.now;
       formats = formats.now;
       pgns = pgns.now;
       lengths = lengths.now;

@@ -2,11 +2,12 @@
 ghost use Rattle.std.specs.Prelude.{◌≡◌, ◌⊎◌, true, false, ◌+◌, ◌-◌, ◌<◌, ◌≤◌, ◌^◌};
 ghost use Rattle.replay.specs.Moves.{Moves, Refills};
 
-use super::input::Got;
-use super::{input, output};
+use super::input::{Got, fill};
+use super::output;
 use answer::place::cut;
 use run::piece::{Stop, Went};
 use run::{kept, whole};
+use std::io::Read;
 use text::Wrote;
 
 // How far it has come.
@@ -67,24 +68,24 @@ fn moved(f: Feed, went: Went) -> Feed
 }
 
 // The lines written. Where that fails, nothing more is done.
-fn flushed(f: Feed, lines: &[u8]) -> Feed {
+fn flushed(rt: &(impl Print + Eprint), f: Feed, lines: &[u8]) -> Feed {
     let mut next = f;
     next.put = 0;
-    if output::flush(lines, f.put) {
+    if output::flush(rt, lines, f.put) {
         return next;
     }
     stopped(next)
 }
 
-fn failed(f: Feed, message: &[u8]) -> Feed
+fn failed(rt: &impl Eprint, f: Feed, message: &str) -> Feed
     ensures { result.is_on ≡ false }
 {
-    output::complain(message);
+    output::complain(rt, message);
     stopped(f)
 }
 
 // The last line. It has room, since the lines before it were written.
-fn finished(f: Feed, window: &[u8], lines: &mut [u8]) -> Feed
+fn finished(rt: &impl Eprint, f: Feed, window: &[u8], lines: &mut [u8]) -> Feed
     ensures { result.is_on ≡ false }
 {
     let mut next = f;
@@ -93,36 +94,41 @@ fn finished(f: Feed, window: &[u8], lines: &mut [u8]) -> Feed
             next.put = put;
             stopped(next)
         }
-        Wrote::Short => failed(f, b"receive: no room for the last line\n"),
+        Wrote::Short => failed(rt, f, "receive: no room for the last line"),
     }
 }
 
 // More of the input, after what is left of the window. What was printed goes out first, since a read may wait.
-fn refilled(f: Feed, window: &mut [u8], lines: &mut [u8]) -> Feed
+fn refilled(
+    rt: &(impl Print + Eprint),
+    input: &mut impl Read,
+    f: Feed,
+    window: &mut [u8],
+    lines: &mut [u8],
+) -> Feed
     ensures { result.is_on ≡ true → Refills f window.old result window.new }
 {
-    let mut next = flushed(f, lines);
+    let mut next = flushed(rt, f, lines);
     if !next.is_on {
         return next;
     }
     let n = kept::keep(window, f.at, f.filled);
     next.at = 0;
     next.filled = n;
-    match input::fill(window, n) {
+    match fill(rt, input, window, n) {
         Got::Bytes(filled) => {
             next.filled = filled;
             next
         }
-        Got::End => finished(next, window, lines),
-        Got::Failed => {
-            os::fail(b"read");
-            stopped(next)
-        }
+        Got::End => finished(rt, next, window, lines),
+        Got::Failed => stopped(next),
     }
 }
 
 // What the window holds, taken as far as it goes; then what its answer asks for.
 fn turn(
+    rt: &(impl Print + Eprint),
+    input: &mut impl Read,
     before: Feed,
     window: &mut [u8],
     receiver: &mut [u8],
@@ -142,11 +148,11 @@ fn turn(
     let f = moved(before, went);
     let stop = went.stop;
     match stop {
-        Stop::Bytes => refilled(f, window, lines),
-        Stop::Room => flushed(f, lines),
+        Stop::Bytes => refilled(rt, input, f, window, lines),
+        Stop::Room => flushed(rt, f, lines),
         Stop::Bad => stopped(f),
-        Stop::Lost => failed(f, b"receive: the lines of a record are lost\n"),
-        Stop::Long => failed(f, b"receive: the trace is too long to be counted\n"),
+        Stop::Lost => failed(rt, f, "receive: the lines of a record are lost"),
+        Stop::Long => failed(rt, f, "receive: the trace is too long to be counted"),
     }
 }
 
@@ -159,7 +165,14 @@ pub struct Ended {
 
 // A loop has to end, and nothing says that the input does: it counts its turns, and leaves off before the end only at a number that no run
 // uses up.
-fn fed(window: &mut [u8], receiver: &mut [u8], store: &mut [u8], lines: &mut [u8]) -> Ended
+fn fed(
+    rt: &(impl Print + Eprint),
+    input: &mut impl Read,
+    window: &mut [u8],
+    receiver: &mut [u8],
+    store: &mut [u8],
+    lines: &mut [u8],
+) -> Ended
     ensures { (result.feed.is_on ≡ false) ⊎ (result.turns ≡ 18446744073709551615) }
 {
     let mut f = Feed {
@@ -178,7 +191,7 @@ fn fed(window: &mut [u8], receiver: &mut [u8], store: &mut [u8], lines: &mut [u8
                 turns: turns,
             };
         }
-        f = turn(f, window, receiver, store, lines);
+        f = turn(rt, input, f, window, receiver, store, lines);
         turns = turns + 1;
     }
     Ended {
@@ -187,7 +200,14 @@ fn fed(window: &mut [u8], receiver: &mut [u8], store: &mut [u8], lines: &mut [u8
     }
 }
 
-pub fn all(window: &mut [u8], receiver: &mut [u8], store: &mut [u8], lines: &mut [u8]) {
-    let ended = fed(window, receiver, store, lines);
-    output::flush(lines, ended.feed.put);
+pub fn all(
+    rt: &(impl Print + Eprint),
+    input: &mut impl Read,
+    window: &mut [u8],
+    receiver: &mut [u8],
+    store: &mut [u8],
+    lines: &mut [u8],
+) {
+    let ended = fed(rt, input, window, receiver, store, lines);
+    output::flush(rt, lines, ended.feed.put);
 }

@@ -2,6 +2,9 @@
 ghost use Rattle.std.specs.Prelude.{◌≡◌, take};
 ghost use Rattle.replay.specs.Moves.{Behind};
 
+use super::output::tell;
+use std::io::{Error, Read};
+
 // What a read gave.
 #[derive(Clone, Copy)]
 pub enum Got {
@@ -13,19 +16,19 @@ pub enum Got {
 }
 
 // Reads more bytes after the first kept ones, which stay as they are.
-pub fn fill(window: &mut [u8], kept: usize) -> Got
+pub fn fill(rt: &impl Eprint, input: &mut impl Read, window: &mut [u8], kept: usize) -> Got
     ensures { (take kept window.new ≡ take kept window.old) × Behind kept result }
 {
     if window.len() <= kept {
+        tell(rt, "read", Error::other("no room in the window"));
         return Got::Failed;
     }
-    let got = libc::read(libc::STDIN_FILENO, &mut window[kept..]);
-    if got < 0 {
-        return Got::Failed;
+    match input.read(&mut window[kept..]) {
+        Ok(0) => Got::End,
+        Ok(more) => Got::Bytes(kept + more),
+        Err(error) => {
+            tell(rt, "read", error);
+            Got::Failed
+        }
     }
-    if got == 0 {
-        return Got::End;
-    }
-    let more = io::count(got, &window[kept..]);
-    Got::Bytes(kept + more)
 }

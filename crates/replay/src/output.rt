@@ -1,16 +1,24 @@
 // The lines, gathered and written many at a time.
 use answer::place::cut;
+use std::io::Error;
+
+// What the system says of a call that failed: on standard error, as far as that takes it.
+pub fn tell(rt: &impl Eprint, call: &str, error: Error) {
+    let _told = eprintln!(rt; "{call}: {error}");
+}
 
 // Writes the first n bytes, and says whether that went well.
-pub fn flush(lines: &[u8], n: usize) -> bool {
-    let is_written = io::write_all(libc::STDOUT_FILENO, cut(lines, 0, n));
-    if !is_written {
-        os::fail(b"write");
+pub fn flush(rt: &(impl Print + Eprint), lines: &[u8], n: usize) -> bool {
+    match rt.write_all(cut(lines, 0, n)) {
+        Ok(()) => true,
+        Err(error) => {
+            tell(rt, "write", error);
+            false
+        }
     }
-    is_written
 }
 
 // What no call of the system says: on standard error.
-pub fn complain(message: &[u8]) {
-    io::write_all(libc::STDERR_FILENO, message);
+pub fn complain(rt: &impl Eprint, message: &str) {
+    let _told = eprintln!(rt; "{message}");
 }

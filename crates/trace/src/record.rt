@@ -1,6 +1,6 @@
 // Records: number 0 and a reading, or number 1, identifier, length, then that many bytes.
 ghost use Rattle.std.specs.Prelude.{◌≡◌, ◌+◌, ◌≤◌, length};
-ghost use Rattle.trace.specs.Records.{record_at, by_kind, reading_at, frame_at, length_at, bytes_at, faulted, reading as ofReading, frame as ofFrame, record_bytes};
+ghost use Rattle.trace.specs.Records.{record_at, by_kind, reading_at, frame_at, length_at, bytes_at, faulted, reading as of_reading, frame as of_frame, record_bytes};
 ghost use Rattle.trace.specs.Outputs.{Put, RecordWritten};
 
 use super::number::NumberRead;
@@ -120,7 +120,7 @@ fn bytes(end: usize, identifier: u32, len: u32, start: usize) -> RecordRead
 
 // Writes the record of a reading at a place, if there is room.
 pub fn write_reading(out: &mut [u8], at: usize, value: u32) -> Written
-    ensures { RecordWritten out.old at (ofReading value) result out.new }
+    ensures { RecordWritten out.old at (of_reading value) result out.new }
 {
     let need = number::size(0) + number::size(value);
     if !output::has_room(out.len(), at, need) {
@@ -132,7 +132,7 @@ pub fn write_reading(out: &mut [u8], at: usize, value: u32) -> Written
 
 // Writes the record of a frame at a place, if the frame has at most 64 bytes and there is room.
 pub fn write_frame(out: &mut [u8], at: usize, identifier: u32, s: &[u8]) -> Written
-    ensures { RecordWritten out.old at (ofFrame identifier s.now) result out.new }
+    ensures { RecordWritten out.old at (of_frame identifier s.now) result out.new }
 {
     let n = s.len();
     if 64 < n {
@@ -147,8 +147,8 @@ pub fn write_frame(out: &mut [u8], at: usize, identifier: u32, s: &[u8]) -> Writ
 
 // Writes a frame's record at a place that has room for it.
 fn put_frame(out: &mut [u8], at: usize, identifier: u32, s: &[u8]) -> usize
-    requires { (length s.now ≤ 64) × (at + length (record_bytes (ofFrame identifier s.now)) ≤ length out.old) }
-    ensures { Put out.old at (record_bytes (ofFrame identifier s.now)) result out.new }
+    requires { (length s.now ≤ 64) × (at + length (record_bytes (of_frame identifier s.now)) ≤ length out.old) }
+    ensures { Put out.old at (record_bytes (of_frame identifier s.now)) result out.new }
 {
     let after_kind = number::put(out, at, 1);
     let after_identifier = number::put(out, after_kind, identifier);

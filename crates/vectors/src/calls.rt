@@ -9,6 +9,7 @@ use progress::wait::IdleLimits;
 use receiver::Receiver;
 use record_bytes::layout::write_record;
 use report::answer_lines::write_answer;
+use std::io;
 use text::Wrote;
 
 // What a transfer announces.
@@ -22,24 +23,31 @@ struct Transfer {
     pgn: u32,
 }
 
-fn print(w: Wrote, lines: &[u8]) {
+fn print(rt: &impl Print, w: Wrote, lines: &[u8]) -> io::Result<()> {
     match w {
         Wrote::Written(n) => {
             if n <= lines.len() {
-                show::text(&lines[0..n]);
+                show::text(rt, &lines[0..n])?;
             }
+            Ok(())
         }
-        Wrote::Short => show::text(b"short\n"),
+        Wrote::Short => show::text(rt, b"short\n"),
     }
 }
 
 // One frame taken, and its lines.
-fn take(receiver: &mut [u8], id: u32, bytes: &[u8], store: &mut [u8]) {
+fn take(
+    rt: &impl Print,
+    receiver: &mut [u8],
+    id: u32,
+    bytes: &[u8],
+    store: &mut [u8],
+) -> io::Result<()> {
     let answer = take_frame(receiver, id, bytes, store);
     let message = bytes_of(place_of(answer), bytes, store);
     let mut lines = [0u8; 20000];
     let w = write_answer(&mut lines, 0, bytes, answer, message);
-    print(w, &lines);
+    print(rt, w, &lines)
 }
 
 // The bytes of an RTS, a BAM or an EOMS.
@@ -60,46 +68,48 @@ fn control(t: Transfer, kind: u8, max: u8, assurance: u8) -> [u8; 12] {
     ]
 }
 
-fn announce(receiver: &mut [u8], t: Transfer, store: &mut [u8]) {
+fn announce(rt: &impl Print, receiver: &mut [u8], t: Transfer, store: &mut [u8]) -> io::Result<()> {
     let bytes = control(t, 0, t.max, 0);
-    take(receiver, 0x1C4D2100 + t.sa as u32, &bytes, store);
+    take(rt, receiver, 0x1C4D2100 + t.sa as u32, &bytes, store)
 }
 
-fn finish(receiver: &mut [u8], t: Transfer, store: &mut [u8]) {
+fn finish(rt: &impl Print, receiver: &mut [u8], t: Transfer, store: &mut [u8]) -> io::Result<()> {
     let bytes = control(t, 2, 0, 0);
-    take(receiver, 0x1C4D2100 + t.sa as u32, &bytes, store);
+    take(rt, receiver, 0x1C4D2100 + t.sa as u32, &bytes, store)
 }
 
 // Byte j of the data of segment n is 7 times the sender, 3 times n and j together, in one byte.
 fn fill(bytes: &mut [u8], sa: u8, n: u32) {
-    let mut j: usize = 4;
     let mut value = sa as u32 % 256 * 7 + n % 256 * 3;
-    while j < bytes.len() {
+    for j in 4..bytes.len() {
         bytes[j] = low_byte(value);
         value = value % 256 + 1;
-        j = j + 1;
     }
 }
 
-fn send_segment(receiver: &mut [u8], t: Transfer, n: u32, store: &mut [u8]) {
+fn send_segment(
+    rt: &impl Print,
+    receiver: &mut [u8],
+    t: Transfer,
+    n: u32,
+    store: &mut [u8],
+) -> io::Result<()> {
     let mut bytes = [0u8; 64];
     fill(&mut bytes, t.sa, n);
     bytes[0] = t.session % 16 * 16;
     bytes[1] = low_byte(n);
     bytes[2] = low_byte(n / 256);
     bytes[3] = low_byte(n / 65536);
-    take(receiver, 0x1C4E2100 + t.sa as u32, &bytes, store);
+    take(rt, receiver, 0x1C4E2100 + t.sa as u32, &bytes, store)
 }
 
 // A whole transfer: announced, every segment in order, ended.
-fn whole(receiver: &mut [u8], t: Transfer, store: &mut [u8]) {
-    announce(receiver, t, store);
-    let mut n: u32 = 0;
-    while n < t.segments {
-        n = n + 1;
-        send_segment(receiver, t, n, store);
+fn whole(rt: &impl Print, receiver: &mut [u8], t: Transfer, store: &mut [u8]) -> io::Result<()> {
+    announce(rt, receiver, t, store)?;
+    for n in 0..t.segments {
+        send_segment(rt, receiver, t, n + 1, store)?;
     }
-    finish(receiver, t, store);
+    finish(rt, receiver, t, store)
 }
 
 fn open(receiver: &mut [u8]) {
@@ -112,7 +122,7 @@ fn open(receiver: &mut [u8]) {
 }
 
 // Figure A3 grants 3 segments and then 1, Figure A1's four are one grant here, Figure A6 announces assurance data.
-pub fn figures(receiver: &mut [u8], store: &mut [u8]) {
+pub fn figures(rt: &impl Print, receiver: &mut [u8], store: &mut [u8]) -> io::Result<()> {
     open(receiver);
     let a3 = Transfer {
         sa: 0,
@@ -122,7 +132,7 @@ pub fn figures(receiver: &mut [u8], store: &mut [u8]) {
         max: 3,
         pgn: 65259,
     };
-    whole(receiver, a3, store);
+    whole(rt, receiver, a3, store)?;
     let a1 = Transfer {
         sa: 0,
         session: 1,
@@ -131,7 +141,7 @@ pub fn figures(receiver: &mut [u8], store: &mut [u8]) {
         max: 255,
         pgn: 65259,
     };
-    whole(receiver, a1, store);
+    whole(rt, receiver, a1, store)?;
     let a6 = Transfer {
         sa: 0,
         session: 0,
@@ -141,7 +151,7 @@ pub fn figures(receiver: &mut [u8], store: &mut [u8]) {
         pgn: 65260,
     };
     let bam = control(a6, 4, 255, 1);
-    take(receiver, 0x1C4DFF00, &bam, store);
+    take(rt, receiver, 0x1C4DFF00, &bam, store)?;
     let full = Transfer {
         sa: 5,
         session: 3,
@@ -150,7 +160,7 @@ pub fn figures(receiver: &mut [u8], store: &mut [u8]) {
         max: 255,
         pgn: 61184,
     };
-    whole(receiver, full, store);
+    whole(rt, receiver, full, store)
 }
 
 fn sender(sa: u8) -> Transfer {
@@ -164,36 +174,33 @@ fn sender(sa: u8) -> Transfer {
     }
 }
 
-fn all_announce(receiver: &mut [u8], store: &mut [u8]) {
-    let mut sa: u8 = 1;
-    while sa < 10 {
-        announce(receiver, sender(sa), store);
-        sa = sa + 1;
+fn all_announce(rt: &impl Print, receiver: &mut [u8], store: &mut [u8]) -> io::Result<()> {
+    for sa in 1..10 {
+        announce(rt, receiver, sender(sa), store)?;
     }
+    Ok(())
 }
 
 // Segment n of each of the nine, of which the ninth is not open.
-fn all_send(receiver: &mut [u8], n: u32, store: &mut [u8]) {
-    let mut sa: u8 = 1;
-    while sa < 10 {
-        send_segment(receiver, sender(sa), n, store);
-        sa = sa + 1;
+fn all_send(rt: &impl Print, receiver: &mut [u8], n: u32, store: &mut [u8]) -> io::Result<()> {
+    for sa in 1..10 {
+        send_segment(rt, receiver, sender(sa), n, store)?;
     }
+    Ok(())
 }
 
-fn all_finish(receiver: &mut [u8], store: &mut [u8]) {
-    let mut sa: u8 = 1;
-    while sa < 10 {
-        finish(receiver, sender(sa), store);
-        sa = sa + 1;
+fn all_finish(rt: &impl Print, receiver: &mut [u8], store: &mut [u8]) -> io::Result<()> {
+    for sa in 1..10 {
+        finish(rt, receiver, sender(sa), store)?;
     }
+    Ok(())
 }
 
 // Eight transfers interleaved, and a ninth for which no slot is free.
-pub fn nine_senders(receiver: &mut [u8], store: &mut [u8]) {
+pub fn nine_senders(rt: &impl Print, receiver: &mut [u8], store: &mut [u8]) -> io::Result<()> {
     open(receiver);
-    all_announce(receiver, store);
-    all_send(receiver, 1, store);
-    all_send(receiver, 2, store);
-    all_finish(receiver, store);
+    all_announce(rt, receiver, store)?;
+    all_send(rt, receiver, 1, store)?;
+    all_send(rt, receiver, 2, store)?;
+    all_finish(rt, receiver, store)
 }

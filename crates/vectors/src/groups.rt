@@ -3,76 +3,78 @@ use super::show;
 use answer::place::cut;
 use multi_pg::{Cursor, Group, Judgement, Next};
 use packing::Packed;
+use std::io;
 
-fn group(g: Group) {
-    show::text(b" pg");
-    show::number(g.pgn as u64);
-    show::number(g.start as u64);
-    show::number(g.len as u64);
+fn group(rt: &impl Print, g: Group) -> io::Result<()> {
+    show::text(rt, b" pg")?;
+    show::number(rt, g.pgn as u64)?;
+    show::number(rt, g.start as u64)?;
+    show::number(rt, g.len as u64)?;
     if g.service == 1 {
-        show::text(b" format");
-        show::number(g.format as u64);
+        show::text(rt, b" format")?;
+        show::number(rt, g.format as u64)?;
     }
+    Ok(())
 }
 
 // The trailer of a group that ends at a place.
-fn trailer(frame: &[u8], end: usize, len: usize) {
+fn trailer(rt: &impl Print, frame: &[u8], end: usize, len: usize) -> io::Result<()> {
     if len == 0 {
-        return;
+        return Ok(());
     }
     if end < len {
-        return;
+        return Ok(());
     }
-    show::text(b" trailer");
-    show::bytes(cut(frame, end - len, len));
+    show::text(rt, b" trailer")?;
+    show::bytes(rt, cut(frame, end - len, len))
 }
 
 // The judgement on a frame and its groups: PGN, place and length of the data; where it has one, trailer format and trailer. A frame has
 // 16 groups at most.
-fn read(name: &[u8], frame: &[u8]) {
-    show::text(name);
+fn read(rt: &impl Print, name: &[u8], frame: &[u8]) -> io::Result<()> {
+    show::text(rt, name)?;
     match multi_pg::read::judge(frame) {
-        Judgement::Good => show::text(b" good"),
+        Judgement::Good => show::text(rt, b" good")?,
         Judgement::Refused(r) => {
-            show::text(b" refused");
-            show::number(frame::refusal::number(r) as u64);
+            show::text(rt, b" refused")?;
+            show::number(rt, frame::refusal::number(r) as u64)?;
         }
     }
     let mut c = Cursor::over(frame);
-    let mut turn: usize = 0;
-    while turn < 16 {
+    for _ in 0..16 {
         match c.next(frame) {
             Next::Given(g, after) => {
-                group(g);
-                trailer(frame, after.at, g.trailer);
+                group(rt, g)?;
+                trailer(rt, frame, after.at, g.trailer)?;
                 c = after;
             }
             Next::End => {}
         }
-        turn = turn + 1;
     }
-    show::end();
+    show::end(rt)
 }
 
 // The bytes of a frame from a place on.
-fn ending(frame: &[u8], at: usize) {
+fn ending(rt: &impl Print, frame: &[u8], at: usize) -> io::Result<()> {
     if at <= frame.len() {
-        show::text(b" padding");
-        show::bytes(&frame[at..]);
+        show::text(rt, b" padding")?;
+        show::bytes(rt, &frame[at..])?;
     }
-    show::end();
+    show::end(rt)
 }
 
 // A frame that was packed into the first n bytes of out: what is there from the place at on, and what is read from it.
-fn packed(name: &[u8], out: &[u8], n: usize, at: usize) {
+fn packed(rt: &impl Print, name: &[u8], out: &[u8], n: usize, at: usize) -> io::Result<()> {
     if n <= out.len() {
-        ending(&out[0..n], at);
-        read(name, &out[0..n]);
+        ending(rt, &out[0..n], at)?;
+        read(rt, name, &out[0..n])?;
     }
+    Ok(())
 }
 
 // The frame that a request packs to: its length and its last bytes, from the place at on.
 fn pack(
+    rt: &impl Print,
     name: &[u8],
     services: &[u8],
     formats: &[u8],
@@ -82,42 +84,43 @@ fn pack(
     data: &[u8],
     assured: &[u8],
     at: usize,
-) {
+) -> io::Result<()> {
     let mut out = [0xEEu8; 64];
-    show::text(name);
+    show::text(rt, name)?;
     match packing::pack(
         services, formats, pgns, lengths, trailers, data, assured, &mut out,
     ) {
         Packed::Frame(n) => {
-            show::text(b" length");
-            show::number(n as u64);
-            packed(name, &out, n, at);
+            show::text(rt, b" length")?;
+            show::number(rt, n as u64)?;
+            packed(rt, name, &out, n, at)
         }
         Packed::Refused(r) => {
-            show::text(b" refused");
-            show::number(frame::refusal::number(r) as u64);
-            show::end();
+            show::text(rt, b" refused")?;
+            show::number(rt, frame::refusal::number(r) as u64)?;
+            show::end(rt)
         }
     }
 }
 
 // Figure 17 is a group with a trailer of 4 bytes, Figure 18 a plain one.
-pub fn headers() {
+pub fn headers(rt: &impl Print) -> io::Result<()> {
     let figure17 = [
         0x28u8, 0x64, 0x00, 0x0C, 0x67, 0x20, 0x79, 0xE0, 0xFF, 0xFF, 0xFF, 0xFF, 0xAF, 0x03, 0x87,
         0xEF,
     ];
-    read(b"figure 17", &figure17);
+    read(rt, b"figure 17", &figure17)?;
     let figure18 = [
         0x40u8, 0xF0, 0x17, 0x08, 0x67, 0x20, 0x79, 0xE0, 0xFA, 0xEF, 0x00, 0xFF,
     ];
-    read(b"figure 18", &figure18);
+    read(rt, b"figure 18", &figure18)
 }
 
 // Figure 23: 44 bytes of groups in a frame of 48.
-pub fn padding() {
+pub fn padding(rt: &impl Print) -> io::Result<()> {
     let data = [0x5Au8; 40];
     pack(
+        rt,
         b"figure 23",
         &[2u8],
         &[0u8],
@@ -127,13 +130,14 @@ pub fn padding() {
         &data,
         b"",
         44,
-    );
+    )
 }
 
 // Figures 26 and 27 by their lengths: one group of each has a trailer, of 4 bytes after 20 of data, and of 8 after 3.
-pub fn examples() {
+pub fn examples(rt: &impl Print) -> io::Result<()> {
     let first = [0x11u8; 41];
     pack(
+        rt,
         b"figure 26",
         &[2u8, 1, 2, 2],
         &[0u8, 1, 0, 0],
@@ -143,10 +147,11 @@ pub fn examples() {
         &first,
         &[0x33u8, 0x33, 0x33, 0x33],
         61,
-    );
+    )?;
     let second = [0x22u8; 12];
     let assured = [0x44u8; 8];
     pack(
+        rt,
         b"figure 27",
         &[2u8, 1, 2, 2],
         &[0u8, 5, 0, 0],
@@ -156,5 +161,5 @@ pub fn examples() {
         &second,
         &assured,
         36,
-    );
+    )
 }

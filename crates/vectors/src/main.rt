@@ -9,16 +9,17 @@ mod show;
 mod transfers;
 
 use record_bytes::places::RECORD_BYTES;
+use std::io;
 
-fn main() {
-    groups::headers();
-    groups::padding();
-    groups::examples();
-    transfers::received();
-    transfers::sent();
-    transfers::segments();
+fn main(rt: HostRuntime) -> io::Result<()> {
+    groups::headers(&rt)?;
+    groups::padding(&rt)?;
+    groups::examples(&rt)?;
+    transfers::received(&rt)?;
+    transfers::sent(&rt)?;
+    transfers::segments(&rt)?;
     let mut receiver = [0u8; RECORD_BYTES];
     let mut store = [0xEEu8; 32768];
-    calls::figures(&mut receiver, &mut store);
-    calls::nine_senders(&mut receiver, &mut store);
+    calls::figures(&rt, &mut receiver, &mut store)?;
+    calls::nine_senders(&rt, &mut receiver, &mut store)
 }

@@ -1,28 +1,22 @@
 // Words and numbers on standard output.
+use std::io;
 
-pub fn text(s: &[u8]) {
-    io::write_all(1, s);
+pub fn text(rt: &impl Print, s: &[u8]) -> io::Result<()> {
+    rt.write_all(s)
 }
 
-pub fn number(n: u64) {
-    io::write_all(1, b" ");
-    io::print_decimal(1, n);
+pub fn number(rt: &impl Print, n: u64) -> io::Result<()> {
+    print!(rt; " {n}")
 }
 
-pub fn end() {
-    io::write_all(1, b"\n");
-}
-
-fn wide(x: u8) -> u64 {
-    x as u64
+pub fn end(rt: &impl Print) -> io::Result<()> {
+    rt.write_all(b"\n")
 }
 
 // Bytes in hexadecimal.
-pub fn bytes(s: &[u8]) {
-    let mut i: usize = 0;
-    while i < s.len() {
-        io::write_all(1, b" ");
-        io::print_hex(1, wide(s[i]), 2);
-        i = i + 1;
+pub fn bytes(rt: &impl Print, s: &[u8]) -> io::Result<()> {
+    for x in s {
+        print!(rt; " {x:02x}")?;
     }
+    Ok(())
 }

@@ -1,4 +1,4 @@
-//! Links libdwaebinam.a, which `rt staticlib dwaebinam` writes at the repository's root.
+//! Links libdwaebinam.a, which `tests/archive` makes.
 
 use std::env;
 use std::path::PathBuf;
@@ -11,7 +11,7 @@ fn main() {
     println!("cargo:rerun-if-changed={}", archive.display());
     assert!(
         archive.exists(),
-        "{} is not there: run `rt staticlib dwaebinam` at the repository's root",
+        "{} is not there: run `tests/archive`",
         archive.display()
     );
     println!("cargo:rustc-link-search=native={}", folder.display());

@@ -1,4 +1,3 @@
-use Prim.Native.Nat.{◌-◌}
 use native.Mathlib.Omega.{arith}
 use mathlib.Core.Path.{refl}
 use Rattle.text.specs.Line.{numbers, spaced}
@@ -14,12 +13,11 @@ returns-then-left-digits c =
     count_cut numbers spaced no_numbers more_numbers _ _ _ _ c.loop-i.invariant.1 0 c.loop-i-test.true (spaced_short _ _ _ c.octet_width-digits.ensures c.if-left-digits.true)
 
 pub loop-i-preserved : goal.loop-i-preserved
-loop-i-preserved c =
-    (
-      omega arith,
-      count-on numbers spaced no_numbers more_numbers _ _ _ _ c.loop-i.invariant.1 0 c.loop-i-test.true _
-          (spaced_left _ _ _ c.octet_width-digits.ensures c.if-left-digits.false),
-    )
+loop-i-preserved c = (
+  omega arith,
+  count-on numbers spaced no_numbers more_numbers _ _ _ _ c.loop-i.invariant.1 0 c.loop-i-test.true _
+      (spaced_left _ _ _ c.octet_width-digits.ensures c.if-left-digits.false),
+)
 
 pub returns : goal.returns
 returns c = count_out numbers spaced no_numbers more_numbers _ _ _ _ c.loop-i.invariant.1 c.loop-i-test.false

@@ -1,4 +1,3 @@
-use Prim.Native.Nat.{◌-◌}
 use native.Mathlib.Omega.{arith}
 use Rattle.text.specs.Put.{going_start}
 use Rattle.text.specs.Line.{numbers, spaced}

@@ -14,17 +14,16 @@ returns-then-s-at c =
     c.loop-more.more c.if-s-at.true ∙ c.loop-more.invariant.3
 
 pub last_group-requires : goal.last_group-requires
-last_group-requires c =
-    (
-      search rules,
-      omega (
-        arith,
-        group_low c.loop-more.value c.loop-more.scale c.wide-b.result (search rules)
-            c.if-b-lt128.true,
-        scaled_low _ _
-            (scaled_next c.loop-more.scale c.loop-more.more c.loop-more-test.true c.loop-more.invariant.2),
-      ),
-    )
+last_group-requires c = (
+  search rules,
+  omega (
+    arith,
+    group_low c.loop-more.value c.loop-more.scale c.wide-b.result (search rules)
+        c.if-b-lt128.true,
+    scaled_low _ _
+        (scaled_next c.loop-more.scale c.loop-more.more c.loop-more-test.true c.loop-more.invariant.2),
+  ),
+)
 
 pub returns-then-b-lt128 : goal.returns-then-b-lt128
 returns-then-b-lt128 c =
@@ -56,16 +55,15 @@ overflow_mul-scale c =
     omega (arith, scaled_low _ _ (scaled_next c.loop-more.scale c.loop-more.more c.loop-more-test.true c.loop-more.invariant.2))
 
 pub loop-more-preserved : goal.loop-more-preserved
-loop-more-preserved c =
-    (
-      group_low c.loop-more.value c.loop-more.scale (c.wide-b.result - 128) (search rules) (omega arith),
-      search rules,
-      scaled_next
-          c.loop-more.scale c.loop-more.more c.loop-more-test.true c.loop-more.invariant.2,
-      next c.args.s.now
-          c.loop-more.at c.loop-more.value c.loop-more.scale c.wide-b.result c.if-s-at.false c.wide-b.ensures.0
-          c.loop-more.more c.loop-more-test.true c.if-b-lt128.false ∙ c.loop-more.invariant.3,
-    )
+loop-more-preserved c = (
+  group_low c.loop-more.value c.loop-more.scale (c.wide-b.result - 128) (search rules) (omega arith),
+  search rules,
+  scaled_next
+      c.loop-more.scale c.loop-more.more c.loop-more-test.true c.loop-more.invariant.2,
+  next c.args.s.now
+      c.loop-more.at c.loop-more.value c.loop-more.scale c.wide-b.result c.if-s-at.false c.wide-b.ensures.0
+      c.loop-more.more c.loop-more-test.true c.if-b-lt128.false ∙ c.loop-more.invariant.3,
+)
 
 pub fifth_group-requires : goal.fifth_group-requires
 fifth_group-requires c = omega (arith, scaled_last c.loop-more.scale c.loop-more.more c.loop-more-test.false c.loop-more.invariant.2)

@@ -16,13 +16,12 @@ returns-then-not-has_room c =
     c.size-3.ensures.0) c.has_room.ensures c.if-not-has_room.true-raw)
 
 pub put_frame-requires : goal.put_frame-requires
-put_frame-requires c =
-    (
-      c.if-n-gt64.false,
-      room_told c.args.out.now c.args.at (record_bytes (frame c.args.identifier c.args.s.now))
-          (frame_size c.args.identifier c.args.s.now c.size.ensures.0 c.size-2.ensures.0
-          c.size-3.ensures.0) c.has_room.ensures c.if-not-has_room.false-raw,
-    )
+put_frame-requires c = (
+  c.if-n-gt64.false,
+  room_told c.args.out.now c.args.at (record_bytes (frame c.args.identifier c.args.s.now))
+      (frame_size c.args.identifier c.args.s.now c.size.ensures.0 c.size-2.ensures.0
+      c.size-3.ensures.0) c.has_room.ensures c.if-not-has_room.false-raw,
+)
 
 pub returns : goal.returns
 returns c =
