@@ -10,13 +10,12 @@ use Rattle.receiver.specs.Calls.{slot_of, status_step}
 use Rattle.engine.proofs.control.status.Goals as goal
 
 pub apply-requires : goal.apply-requires
-apply-requires c =
-    (
-      c.requires.0,
-      c.requires.1,
-      c.slot_for-f.ensures.1,
-      meets _ _ _ _ c.status-step.ensures c.state_in-x.ensures (status_meets _ _ _ _),
-    )
+apply-requires c = (
+  c.requires.0,
+  c.requires.1,
+  c.slot_for-f.ensures.1,
+  meets _ _ _ _ c.status-step.ensures c.state_in-x.ensures (status_meets _ _ _ _),
+)
 
 pub returns : goal.returns
 unfolding status_step

@@ -25,13 +25,12 @@ store_taken-requires c =
     )
 
 pub apply-requires : goal.apply-requires
-apply-requires c =
-    (
-      c.requires.4,
-      c.requires.5,
-      c.find_key-f.ensures.1,
-      meets _ _ _ _ c.segment-step.ensures c.state_in-x.ensures (segment_meets _ _ _),
-    )
+apply-requires c = (
+  c.requires.4,
+  c.requires.5,
+  c.find_key-f.ensures.1,
+  meets _ _ _ _ c.segment-step.ensures c.state_in-x.ensures (segment_meets _ _ _),
+)
 
 pub returns : goal.returns
 returns c =

@@ -17,8 +17,9 @@ returns-then-bytes-at-eq0 c =
     let a = c.args in let w : slot_place (a.i + 1)
     ≡ slot_place a.i + slot_length = omega arith in and_next _ _ _
     (elim c.if-bytes-at-ne0.branch [
-      then-bytes-at-ne0+else-not-open_ready w ↦ sym (or_next _ _ _ (ne_eqb _ _ w.if-bytes-at-ne0.true) (sym (sym w.open_ready.ensures ∙ w.if-not-open_ready.false)))
-      | else-bytes-at-ne0 w ↦ sym (or_stop _ _ (eq-eqb _ _ w.if-bytes-at-ne0.false)) ])
+      | then-bytes-at-ne0+else-not-open_ready w ↦ sym (or_next _ _ _ (ne_eqb _ _ w.if-bytes-at-ne0.true) (sym (sym w.open_ready.ensures ∙ w.if-not-open_ready.false)))
+      | else-bytes-at-ne0 w ↦ sym (or_stop _ _ (eq-eqb _ _ w.if-bytes-at-ne0.false))
+    ])
     (or_stop _ _ (ap (λ (k : ℕ). eqb (get_or a.bytes.now k 0) 0) w ∙ eq-eqb _ _ c.if-bytes-at-eq0.true))
 
 pub returns : goal.returns
@@ -26,6 +27,7 @@ returns c =
     let a = c.args in let w : slot_place (a.i + 1)
     ≡ slot_place a.i + slot_length = omega arith in and_next _ _ _
     (elim c.if-bytes-at-ne0.branch [
-      then-bytes-at-ne0+else-not-open_ready w ↦ sym (or_next _ _ _ (ne_eqb _ _ w.if-bytes-at-ne0.true) (sym (sym w.open_ready.ensures ∙ w.if-not-open_ready.false)))
-      | else-bytes-at-ne0 w ↦ sym (or_stop _ _ (eq-eqb _ _ w.if-bytes-at-ne0.false)) ])
+      | then-bytes-at-ne0+else-not-open_ready w ↦ sym (or_next _ _ _ (ne_eqb _ _ w.if-bytes-at-ne0.true) (sym (sym w.open_ready.ensures ∙ w.if-not-open_ready.false)))
+      | else-bytes-at-ne0 w ↦ sym (or_stop _ _ (eq-eqb _ _ w.if-bytes-at-ne0.false))
+    ])
     (or_next _ _ _ (ap (λ (k : ℕ). eqb (get_or a.bytes.now k 0) 0) w ∙ ne_eqb _ _ c.if-bytes-at-eq0.false) c.open_ready-2.ensures)

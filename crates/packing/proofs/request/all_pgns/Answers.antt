@@ -17,13 +17,12 @@ returns-then-not-is_pgn c =
     (sym c.is_pgn.ensures ∙ not-true _ c.if-not-is_pgn.true-raw)
 
 pub loop-i-preserved : goal.loop-i-preserved
-loop-i-preserved c =
-    (
-      search rules,
-      passed (pgns_ok c.args.pgns.now) (pgns_ok (drop c.loop-i.i c.args.pgns.now)) (pgns_ok (drop (c.loop-i.i + 1) c.args.pgns.now)) (pgn_ok (get_or c.args.pgns.now c.loop-i.i 0)) c.loop-i.invariant.1
-          (every_turn pgn_ok c.args.pgns.now c.loop-i.i (omega arith))
-          (sym c.is_pgn.ensures ∙ not-false _ c.if-not-is_pgn.false-raw),
-    )
+loop-i-preserved c = (
+  search rules,
+  passed (pgns_ok c.args.pgns.now) (pgns_ok (drop c.loop-i.i c.args.pgns.now)) (pgns_ok (drop (c.loop-i.i + 1) c.args.pgns.now)) (pgn_ok (get_or c.args.pgns.now c.loop-i.i 0)) c.loop-i.invariant.1
+      (every_turn pgn_ok c.args.pgns.now c.loop-i.i (omega arith))
+      (sym c.is_pgn.ensures ∙ not-false _ c.if-not-is_pgn.false-raw),
+)
 
 pub returns : goal.returns
 returns c = sym (end pgns_ok c.args.pgns.now c.loop-i.i (omega arith)) ∙ c.loop-i.invariant.1

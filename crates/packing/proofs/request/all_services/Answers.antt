@@ -17,13 +17,12 @@ returns-then-not-is_service c =
     (sym c.is_service.ensures ∙ not-true _ c.if-not-is_service.true-raw)
 
 pub loop-i-preserved : goal.loop-i-preserved
-loop-i-preserved c =
-    (
-      search rules,
-      passed (services_ok c.args.services.now) (services_ok (drop c.loop-i.i c.args.services.now)) (services_ok (drop (c.loop-i.i + 1) c.args.services.now)) (is_service (get_or c.args.services.now c.loop-i.i 0)) c.loop-i.invariant.1
-          (every_turn is_service c.args.services.now c.loop-i.i (omega arith))
-          (sym c.is_service.ensures ∙ not-false _ c.if-not-is_service.false-raw),
-    )
+loop-i-preserved c = (
+  search rules,
+  passed (services_ok c.args.services.now) (services_ok (drop c.loop-i.i c.args.services.now)) (services_ok (drop (c.loop-i.i + 1) c.args.services.now)) (is_service (get_or c.args.services.now c.loop-i.i 0)) c.loop-i.invariant.1
+      (every_turn is_service c.args.services.now c.loop-i.i (omega arith))
+      (sym c.is_service.ensures ∙ not-false _ c.if-not-is_service.false-raw),
+)
 
 pub returns : goal.returns
 returns c = sym (end services_ok c.args.services.now c.loop-i.i (omega arith)) ∙ c.loop-i.invariant.1

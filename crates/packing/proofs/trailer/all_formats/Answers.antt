@@ -22,13 +22,12 @@ returns-then-not-is_format c =
     (sym c.is_format.ensures ∙ not-true _ c.if-not-is_format.true-raw)
 
 pub loop-i-preserved : goal.loop-i-preserved
-loop-i-preserved c =
-    (
-      search rules,
-      passed (formats_ok c.args.services.now c.args.formats.now) (formats_ok (drop c.loop-i.i c.args.services.now) (drop c.loop-i.i c.args.formats.now)) (formats_ok (drop (c.loop-i.i + 1) c.args.services.now) (drop (c.loop-i.i + 1) c.args.formats.now)) (is_group (service_of (get_or c.args.services.now c.loop-i.i 0) (get_or c.args.formats.now c.loop-i.i 0))) c.loop-i.invariant.1
-          (formats_turn c.args.services.now c.args.formats.now c.loop-i.i (omega (arith, c.shorter-n.ensures)) (omega (arith, c.shorter-n.ensures)))
-          (sym c.is_format.ensures ∙ not-false _ c.if-not-is_format.false-raw),
-    )
+loop-i-preserved c = (
+  search rules,
+  passed (formats_ok c.args.services.now c.args.formats.now) (formats_ok (drop c.loop-i.i c.args.services.now) (drop c.loop-i.i c.args.formats.now)) (formats_ok (drop (c.loop-i.i + 1) c.args.services.now) (drop (c.loop-i.i + 1) c.args.formats.now)) (is_group (service_of (get_or c.args.services.now c.loop-i.i 0) (get_or c.args.formats.now c.loop-i.i 0))) c.loop-i.invariant.1
+      (formats_turn c.args.services.now c.args.formats.now c.loop-i.i (omega (arith, c.shorter-n.ensures)) (omega (arith, c.shorter-n.ensures)))
+      (sym c.is_format.ensures ∙ not-false _ c.if-not-is_format.false-raw),
+)
 
 pub returns : goal.returns
 returns c =

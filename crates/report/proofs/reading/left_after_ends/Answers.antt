@@ -16,14 +16,13 @@ returns-in_default c =
     (omega (arith, c.loop-i-test.true, c.loop-i.invariant.1)) (sym c.left_after_end.ensures ∙ c.in_default.is)
 
 pub loop-i-preserved : goal.loop-i-preserved
-loop-i-preserved c =
-    (
-      omega arith,
-      c.loop-i.invariant.1,
-      count-on ends_lines slot_lines no_ends more_ends _ _ _ _ c.loop-i.invariant.2 none
-          (omega (arith, c.loop-i-test.true, c.loop-i.invariant.1)) _
-          (sym c.left_after_end.ensures ∙ c.in-Enough.is),
-    )
+loop-i-preserved c = (
+  omega arith,
+  c.loop-i.invariant.1,
+  count-on ends_lines slot_lines no_ends more_ends _ _ _ _ c.loop-i.invariant.2 none
+      (omega (arith, c.loop-i-test.true, c.loop-i.invariant.1)) _
+      (sym c.left_after_end.ensures ∙ c.in-Enough.is),
+)
 
 pub returns : goal.returns
 returns c = count_out ends_lines slot_lines no_ends more_ends c.args.ends _ _ c.loop-i.i c.loop-i.invariant.2

@@ -15,13 +15,12 @@ put_end-next-requires c =
     walk-room ends_lines slot_lines no_ends more_ends _ _ _ c.requires _ _ _ c.loop-i.invariant.2 none (omega (arith, c.loop-i-test.true, c.loop-i.invariant.1))
 
 pub loop-i-preserved : goal.loop-i-preserved
-loop-i-preserved c =
-    (
-      omega arith,
-      c.loop-i.invariant.1,
-      walk-on ends_lines slot_lines no_ends more_ends _ _ _ c.requires _ _ _ c.loop-i.invariant.2 none
-          (omega (arith, c.loop-i-test.true, c.loop-i.invariant.1)) _ _ c.put_end-next.ensures,
-    )
+loop-i-preserved c = (
+  omega arith,
+  c.loop-i.invariant.1,
+  walk-on ends_lines slot_lines no_ends more_ends _ _ _ c.requires _ _ _ c.loop-i.invariant.2 none
+      (omega (arith, c.loop-i-test.true, c.loop-i.invariant.1)) _ _ c.put_end-next.ensures,
+)
 
 pub shape_of-out : goal.shape_of-out
 shape_of-out c = c.loop-i.invariant.2.same

@@ -74,11 +74,10 @@ overflow_mul-count-in-Fault c =
     omega (arith, c.loop-g.invariant.inside, c.loop-g.invariant.paid)
 
 pub put_back-requires : goal.put_back-requires
-put_back-requires c =
-    (
-      omega (arith, c.loop-g.invariant.inside, c.loop-g.invariant.paid, c.loop-g.invariant.long, c.requires.0),
-      omega (arith, c.loop-g.invariant.inside, c.loop-g.invariant.paid, c.loop-g.invariant.keeps, c.requires.0),
-    )
+put_back-requires c = (
+  omega (arith, c.loop-g.invariant.inside, c.loop-g.invariant.paid, c.loop-g.invariant.long, c.requires.0),
+  omega (arith, c.loop-g.invariant.inside, c.loop-g.invariant.paid, c.loop-g.invariant.keeps, c.requires.0),
+)
 
 pub returns-in-Fault : goal.returns-in-Fault
 returns-in-Fault c =
