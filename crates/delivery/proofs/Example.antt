@@ -73,7 +73,7 @@ ended k = run (setting k) (start (setting k) 0 0) turns
 calm_rounds : (s : Setting) (x : Link) (n : ℕ) → Calm s x (rounds n)
 unfolding rounds
 calm_rounds s x zero = tt
-calm_rounds s x (suc n) = (tt, (tt, (tt, calm_rounds s _ n)))
+calm_rounds s x (suc n) = (tt, (tt, (tt, calm_rounds s (step s (step s (step s x ask) take_forward) take_backward) n)))
 
 abbrev Rests : ℕ → Type 0
 Rests k = Calm (setting k) (start (setting k) 0 0) turns × AtRest (ended k) × ((ended k).handed ≡ whole (setting k) ∷ []) × ((ended k).well ≡ true)

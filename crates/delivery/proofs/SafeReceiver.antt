@@ -159,7 +159,7 @@ module _ (s : Setting) where
   takes_any none h last (some (segment format n d)) right = either_way (Takes s 0) (not (eqb format 0)) (λ e. not_open 17) (λ e. not_open 16)
   takes_any none h last (some (status st)) right = not_open 16
   takes_any none h last (some (abort pgn)) right = not_open 16
-  takes_any (some r) (told, good) last (some (segment format n d)) right =
-      either_way (Takes s 1) (not (eqb format 0)) (λ e. stays last r told good 17) (λ e. takes_segment last r told good n d right)
-  takes_any (some r) (told, good) last (some (status st)) right = takes_status last r told good st
-  takes_any (some r) (told, good) last (some (abort pgn)) right = takes_abort last r told good pgn
+  takes_any (some r) h last (some (segment format n d)) right =
+      either_way (Takes s 1) (not (eqb format 0)) (λ e. stays last r h.0 h.1 17) (λ e. takes_segment last r h.0 h.1 n d right)
+  takes_any (some r) h last (some (status st)) right = takes_status last r h.0 h.1 st
+  takes_any (some r) h last (some (abort pgn)) right = takes_abort last r h.0 h.1 pgn

@@ -9,7 +9,6 @@ use lib.Dec.{leb}
 use lib.ListN.{length, take, drop, length-append, length-drop}
 use lib.Seq.{length-take-le}
 use borrow.Author.Tests.{leb-true, leb-false}
-use denote.Enum.Declared.{tag_of}
 use Rattle.laws.specs.Bools.{by_test, cond_true, cond_false}
 use Rattle.text.specs.Line.{fits}
 use Rattle.text.specs.Put.{put, put_nil, PutAt, put_then}
@@ -22,7 +21,6 @@ use Rattle.run.specs.declared.step.Step.TheVariants as step
 use Rattle.run.specs.declared.piece.Stop.{Stop}
 use Rattle.run.specs.declared.piece.Stop.TheVariants as stop
 use Rattle.run.specs.declared.piece.Went.{Went}
-use Rattle.run.specs.contracts.step.Step.{the_type}
 
 -- ---- a step that takes a record
 

@@ -17,6 +17,6 @@ unfolding opened
 returns c =
     let a = c.args in
     opened_put a.own (record { first = a.first; second = a.second }) a.reading a.buffer.now c.write_record.result
-    c.«open».result.receiver c.acceptance_number.result c.write_record.new.out c.if-buffer-ne-RECORD_BYTES.false
-    (ap (λ (x : Opened). x.receiver) c.«open».ensures) c.write_record.ensures
-    (c.acceptance_number.ensures ∙ ap (λ (x : Opened). acceptance_number x.answer) c.«open».ensures)
+    c.open-opened.result.receiver c.acceptance_number.result c.write_record.new.out c.if-buffer-ne-RECORD_BYTES.false
+    (ap (λ (x : Opened). x.receiver) c.open-opened.ensures) c.write_record.ensures
+    (c.acceptance_number.ensures ∙ ap (λ (x : Opened). acceptance_number x.answer) c.open-opened.ensures)

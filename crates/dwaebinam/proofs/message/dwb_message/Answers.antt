@@ -9,12 +9,12 @@ pub returns-then-out-n : goal.returns-then-out-n
 returns-then-out-n c =
     let a = c.args in
     front_short _ _ a.out.now
-    (c.bytes_of-bytes.ensures ∙ ap (λ (p : Place). place_bytes p [] a.store.now) c.IsPlace-in.ensures)
+    (c.bytes_of-bytes.ensures ∙ ap (λ (p : Place). place_bytes p [] a.store.now) c.place_in.ensures)
     c.if-out-n.true
 
 pub returns : goal.returns
 returns c =
     let a = c.args in
     front_put _ _ a.out.now
-    (c.bytes_of-bytes.ensures ∙ ap (λ (p : Place). place_bytes p [] a.store.now) c.IsPlace-in.ensures)
+    (c.bytes_of-bytes.ensures ∙ ap (λ (p : Place). place_bytes p [] a.store.now) c.place_in.ensures)
     _ c.if-out-n.false c.copy.ensures

@@ -6,14 +6,6 @@ use Rattle.engine.proofs.Writes.{seen_put}
 use Rattle.engine.proofs.Frames.{is_ready_lem, holds, by_verdict_lem, by_groups, seen_same}
 use Rattle.engine.proofs.call.take_ready.Goals as goal
 
-data-frame-requires c κs = let a = c.before.before.before.before.before.before.before.before.before.before.before.args in
-    let b = a.buffer.now in
-    let d = a.bytes.now in
-    let m = a.store.now in
-    let e = sym c.before.before.before.before.before.before.before.before.before.before.before.requires in
-    let r = is_ready_lem b a.id d m true e refl in
-    (r.bounds, r.store, r.long, holds b a.id d m true e refl c.before.before.before.before.before.before.own_of.ensures.1)
-
 pub own_of-own-requires : goal.own_of-own-requires
 own_of-own-requires c = let a = c.args in
     let b = a.buffer.now in
@@ -30,6 +22,15 @@ control-requires c = let a = c.args in
     let m = a.store.now in
     let e = sym c.requires in
     ((is_ready_lem b a.id d m true e refl).long, holds b a.id d m true e refl c.own_of-own.ensures.1)
+
+pub data_frame-requires : goal.data_frame-requires
+data_frame-requires c = let a = c.args in
+    let b = a.buffer.now in
+    let d = a.bytes.now in
+    let m = a.store.now in
+    let e = sym c.requires in
+    let r = is_ready_lem b a.id d m true e refl in
+    (r.bounds, r.store, r.long, holds b a.id d m true e refl c.own_of-own.ensures.1)
 
 pub returns-in-MultiPg : goal.returns-in-MultiPg
 returns-in-MultiPg c = let a = c.args in

@@ -5,4 +5,4 @@ use Rattle.run.proofs.whole.open.Goals as goal
 
 pub returns : goal.returns
 returns c =
-    c.write_record.ensures ∙ ap (λ (x : Opened). stored_in x.receiver c.args.receiver.now) c.«open».ensures
+    c.write_record.ensures ∙ ap (λ (x : Opened). stored_in x.receiver c.args.receiver.now) c.open-first.ensures
