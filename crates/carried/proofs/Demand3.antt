@@ -16,7 +16,7 @@ use Rattle.answer.specs.Answers.{acceptance_number}
 use Rattle.receiver.specs.Bounds.{opened, opened_with}
 use Rattle.record_bytes.specs.Places.{record_length}
 use Rattle.record_bytes.specs.Layout.{record_bytes}
-use Rattle.record_bytes.specs.RoundTrip.{is_record_lem, read_back}
+use Rattle.record_bytes.proofs.RoundTrip.{is_record_lem, read_back}
 use Rattle.dwaebinam.specs.Calls.{opened_in}
 use Rattle.isolation.specs.Rules.{Values, fresh, outputs}
 use Rattle.isolation.specs.World.{told}

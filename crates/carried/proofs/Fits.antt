@@ -45,7 +45,8 @@ use Rattle.session.specs.declared.Step.{Step}
 use Rattle.session.specs.Decisions.{announced_to, segment_to, status_to, abort_to, after, ending_of, is_silent}
 use Rattle.session.specs.Bounds.{state_ok}
 use Rattle.session.specs.InBounds.{Sound, sound_of}
-use Rattle.session.specs.Fits.{StateSmall, ChangeFits, AnswerFits, StepFits, announce_fits, segment_fits, status_fits, abort_fits}
+use Rattle.session.specs.Fits.{StateSmall, ChangeFits, AnswerFits, StepFits, segment_fits, status_fits, abort_fits}
+use Rattle.session.proofs.Fits.{announce_fits}
 use Rattle.slots.specs.declared.Slot.{Slot}
 use Rattle.slots.specs.declared.Found.{Found}
 use Rattle.slots.specs.declared.Found.TheVariants.{At, Nothing}

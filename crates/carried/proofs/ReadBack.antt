@@ -9,7 +9,8 @@ use lib.ListN.{length, get_or}
 use lib.Seq.{take_at, drop_at}
 use Rattle.frame.specs.Refusals.{number_of, spent_of}
 use Rattle.frame.specs.declared.refusal.Refusal.{Refusal}
-use Rattle.frame.specs.Numbers.{refusal_at, refusal_back}
+use Rattle.frame.specs.Numbers.{refusal_at}
+use Rattle.frame.proofs.Numbers.{refusal_back}
 use Rattle.transport.specs.declared.Kind.{Kind}
 use Rattle.transport.specs.declared.Kind.TheVariants.{Rts, Bam}
 use Rattle.answer.specs.declared.Ending.{Ending}

@@ -19,7 +19,7 @@ use Rattle.record_bytes.specs.Layout.{is_record, record_at}
 use Rattle.record_bytes.specs.Keeping.{put_in}
 use Rattle.record_bytes.specs.Pieces.{record_long}
 use Rattle.record_bytes.specs.RoundTrip.{RecordFits}
-use Rattle.record_bytes.specs.PutBack.{put_is_record, put_read}
+use Rattle.record_bytes.proofs.PutBack.{put_is_record, put_read}
 use Rattle.lent_record.specs.Ready.{ready_in}
 use Rattle.engine.specs.declared.reading.ReadingAnswer.{ReadingAnswer}
 use Rattle.engine.specs.InBytes.{InBytes, outcome_in, frame_in}

@@ -21,7 +21,7 @@ use Rattle.transfer.specs.declared.Reply.{Reply}
 use Rattle.words.specs.Words.{low32}
 use Rattle.sender_bytes.specs.Places.{record_length, last_place}
 use Rattle.sender_bytes.specs.Layout.{Sender, sender_at, own_at}
-use Rattle.sender_bytes.specs.Changed.{length_changed}
+use Rattle.sender_bytes.proofs.Changed.{length_changed}
 use Rattle.sender.specs.Transfers.{in_bounds, ready_in}
 use Rattle.sender.specs.Calls.{Decides, key_in, announces, asks, hears_from, applied_in, decided_in, on_verdict, hear_in}
 use Rattle.sender.specs.Model.{Stepped, announce_step, ask_step, by_verdict, frame_step, reading_step, key_of}

@@ -16,7 +16,8 @@ use Rattle.transfer.specs.declared.Change.TheVariants.{Stays, Opens, Moves, Ends
 use Rattle.transfer.specs.declared.Step.{Step}
 use Rattle.transfer.specs.Bounds.{destination_ok, length_ok, state_ok}
 use Rattle.transfer.specs.Decisions.{after, announced_to, asked_to, hears}
-use Rattle.transfer.specs.Kept.{after_kept, OpensFor, Directed, announce_kept, announce_opens_for, ask_kept, ask_opens_for, hear_kept, hear_opens_for}
+use Rattle.transfer.specs.Kept.{after_kept, OpensFor, Directed, ask_kept, ask_opens_for, hear_kept, hear_opens_for}
+use Rattle.transfer.proofs.Kept.{announce_kept, announce_opens_for}
 use Rattle.delivery.proofs.Transfers.{OnlyFor}
 
 -- a step from x of a transfer of the key

@@ -19,7 +19,7 @@ use Rattle.frame.specs.Identifiers.{identifier_of}
 use Rattle.frame.specs.declared.judge.Verdict.TheVariants.{Control, Refused}
 use Rattle.frame.specs.Judge.{route_of, route_taken, by_format, judged}
 use Rattle.frame.specs.Lengths.{frame_length}
-use Rattle.frame.specs.LengthLaws.{frame_least, frame_bounds}
+use Rattle.frame.proofs.LengthLaws.{frame_least, frame_bounds}
 use Rattle.transport.specs.declared.control.Control as control-type
 use Rattle.transport.specs.declared.control.Control.TheVariants as control
 use Rattle.transport.specs.Heads.{head, control_at, id_to, to_originator, to_responder}
@@ -32,7 +32,8 @@ use Rattle.transport.specs.Aborts.{role_at, abort_pgn_at, abort_bytes}
 use Rattle.transport.specs.Segments.{format_at, number_at, data_at, segment_bytes}
 use Rattle.transport.specs.Control.{not_receivers, control_of}
 use Rattle.transport.specs.Responses.{response_id, response_bytes, response_of}
-use Rattle.transport.specs.ReadBack.{Three, low24_read_back, KeyFits, fields_to, id_read_back, read_of, read_back, announcement_read_back, status_read_back, abort_read_back, segment_long, data_read_back}
+use Rattle.transport.specs.ReadBack.{Three, low24_read_back, KeyFits, fields_to, id_read_back, read_of, announcement_read_back, status_read_back, abort_read_back, segment_long, data_read_back}
+use Rattle.transport.proofs.ReadBack.{read_back}
 use Rattle.session.specs.Segments.{due_of}
 use Rattle.transfer.specs.Transfers.{segments_of, announcement_of, status_of}
 use Rattle.transfer.specs.declared.State.{State}

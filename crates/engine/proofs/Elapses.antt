@@ -28,7 +28,8 @@ use Rattle.record_bytes.specs.Places.{record_length, head_length, slot_length, l
 use Rattle.record_bytes.specs.Layout.{slot_at, pieces_of, slots_at, record_at}
 use Rattle.words.specs.Words.{low4}
 use Rattle.record_bytes.specs.Keeping.{kept, merged}
-use Rattle.record_bytes.specs.Kept.{Bytes, Good, kept_same, good_piece, put_elapsed}
+use Rattle.record_bytes.specs.Kept.{Bytes, Good}
+use Rattle.record_bytes.proofs.Kept.{kept_same, good_piece, put_elapsed}
 use Rattle.record_bytes.specs.Pieces.{piece_of}
 use Rattle.laws.specs.Pastes.{paste_own}
 use Rattle.record_bytes.proofs.Keeps.{keeps_long, keeps_same, keeps_turn, keeps_all}

@@ -19,7 +19,8 @@ use Rattle.receiver.specs.Bounds.{in_bounds}
 use Rattle.receiver.specs.Calls.{answered, is_ready, groups_step, on_verdict, frame_all}
 use Rattle.record_bytes.specs.Places.{own_place}
 use Rattle.record_bytes.specs.Layout.{is_record, record_at}
-use Rattle.record_bytes.specs.Kept.{Bytes, keep}
+use Rattle.record_bytes.specs.Kept.{Bytes}
+use Rattle.record_bytes.proofs.Kept.{keep}
 use Rattle.lent_record.specs.Ready.{ready_in, Ready, ready_of}
 use Rattle.engine.specs.InBytes.{Holds, InBytes, groups_answer, outcome_in, frame_in}
 

@@ -25,7 +25,7 @@ use Rattle.receiver.specs.Calls.{answered, with_slot, applied, apply}
 use Rattle.record_bytes.specs.Places.{slot_length, progress_length, state_place, slot_place, progress_place}
 use Rattle.record_bytes.specs.Layout.{progress_bytes, session_bytes, session_at, pieces_of, slots_at, record_at}
 use Rattle.record_bytes.specs.Keeping.{put_in}
-use Rattle.record_bytes.specs.Kept.{keep, put_one, put_forward}
+use Rattle.record_bytes.proofs.Kept.{keep, put_one, put_forward}
 use Rattle.lent_record.specs.Held.{slot_of_lem}
 use Rattle.engine.specs.InBytes.{stepped_in, Holds, InBytes}
 

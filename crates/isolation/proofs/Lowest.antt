@@ -11,7 +11,7 @@ use Rattle.frame.specs.Judge.{judged}
 use Rattle.frame.specs.Refusals.{number_of}
 use Rattle.frame.specs.declared.refusal.Refusal.{Refusal}
 use Rattle.frame.specs.declared.refusal.Refusal.TheVariants.{AnnouncementForm, KeyOpen, SlotsFull, OutOfBounds}
-use Rattle.frame.specs.Numbers.{number_range}
+use Rattle.frame.proofs.Numbers.{number_range}
 use Rattle.transport.specs.Kinds.{is_rts}
 use Rattle.transport.specs.declared.Key.{Key}
 use Rattle.transport.specs.declared.announcement.Announcement.{Announcement}

@@ -30,6 +30,7 @@ use Rattle.session.specs.declared.Change.TheVariants.{Stays, Ends}
 use Rattle.session.specs.declared.Step.{Step}
 use Rattle.session.specs.Decisions.{ending_of, is_silent}
 use Rattle.session.specs.Effects as S
+use Rattle.session.proofs.Effects.{announce_effect}
 use Rattle.session.specs.Effects.{mild}
 use Rattle.slots.specs.declared.Slot.{Slot}
 use Rattle.slots.specs.declared.Found.{Found}
@@ -97,7 +98,7 @@ module _ (r : Receiver) (m : List ℕ) (κ : Key) where
     where
       go : (b : Body) → Effect r m κ (body_step r κ b d m)
       go (announce a) =
-          step_effect (slot_for κ r.slots) _ m refl (S.announce_effect (state_in (slot_for κ r.slots) r.slots) (is_at (slot_for κ r.slots)) κ a r.last) (λ _. refl) (λ _. refl)
+          step_effect (slot_for κ r.slots) _ m refl (announce_effect (state_in (slot_for κ r.slots) r.slots) (is_at (slot_for κ r.slots)) κ a r.last) (λ _. refl) (λ _. refl)
       go (segment format n x) =
           step_effect (slot_for κ r.slots) _ _ refl (S.segment_effect (state_in (slot_for κ r.slots) r.slots) (record { format = format; number = record { 0 = n }; room = length x }) r.last)
           (λ c. rw c) (λ c. rw c)

@@ -3,3 +3,4 @@ pub mod Sums
 pub mod Fits
 pub mod Outcomes
 pub mod Turns
+pub mod RoundTrip

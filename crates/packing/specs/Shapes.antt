@@ -7,7 +7,7 @@ use Rattle.std.proofs.Math.ListN.{get_or-append}
 use Rattle.std.proofs.Math.Seq.{paste, paste-suc}
 use Rattle.laws.specs.Choice.{then, else, each_of}
 use Rattle.laws.specs.Pastes.{paste_next}
-use Rattle.frame.specs.LengthLaws.{frame_bounds}
+use Rattle.frame.proofs.LengthLaws.{frame_bounds}
 use Rattle.frame.specs.Lengths.{frame_length}
 use Rattle.packing.specs.Packing.{Request, asked_by, asked, body, padding, pad_byte, sum, needed_by, needed, trailers_ok, lists_even, bytes_whole, request_fits, frame_of}
 

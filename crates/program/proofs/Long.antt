@@ -7,7 +7,7 @@ use mathlib.Core.List.{List, [], ◌∷◌, ◌++◌}
 use lib.ListN.{length, get_or, length-append}
 use Rattle.frame.specs.Refusals.{number_of}
 use Rattle.frame.specs.declared.refusal.Refusal.{Refusal}
-use Rattle.frame.specs.Numbers.{number_range}
+use Rattle.frame.proofs.Numbers.{number_range}
 use Rattle.frame.specs.declared.judge.Route.{Route}
 use Rattle.multi_pg.specs.declared.Group.{Group}
 use Rattle.multi_pg.specs.Groups.{payload, pgn_at, group_at, end_of, GroupsRead, good, bad, groups_read, groups_in, groups_of}

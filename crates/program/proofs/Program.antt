@@ -14,7 +14,8 @@ use Rattle.receiver.specs.Bounds.{in_bounds, opened, opened_with}
 use Rattle.receiver.specs.Calls.{Elapsed, Outcome, is_ready, frame_all, stays, reading_kept, reading_step}
 use Rattle.record_bytes.specs.Kept.{Bytes}
 use Rattle.record_bytes.specs.Layout.{is_record, record_at, record_bytes, stored_in}
-use Rattle.record_bytes.specs.RoundTrip.{RecordFits, is_record_lem, read_back}
+use Rattle.record_bytes.specs.RoundTrip.{RecordFits}
+use Rattle.record_bytes.proofs.RoundTrip.{is_record_lem, read_back}
 use Rattle.lent_record.specs.Ready.{ready_in}
 use Rattle.engine.specs.declared.reading.ReadingAnswer.{ReadingAnswer}
 use Rattle.engine.specs.InBytes.{InBytes, frame_in}

@@ -5,4 +5,3 @@ pub mod Pieces
 pub mod Keeping
 pub mod Kept
 pub mod RoundTrip
-pub mod PutBack

@@ -1,8 +1,7 @@
 -- Numbers of 64 bits in bytes, low byte first: two words of 32 bits, the low one first.
-use Rattle.std.specs.Prelude.{ℕ, ◌+◌, ◌*◌, ◌/◌, ◌%◌, ◌^◌, ◌<◌, ◌≡◌, List, []}
-use Rattle.std.proofs.Common.{arith, ap₂, ◌∙◌}
+use Rattle.std.specs.Prelude.{ℕ, ◌+◌, ◌*◌, ◌/◌, ◌%◌, ◌<◌, ◌≡◌, List, []}
+use Rattle.std.proofs.Common.{arith, ap₂}
 use Rattle.words.specs.Words.{low4, low32}
-use Rattle.words.specs.Laws.{low32_read_back}
 
 -- the number that eight bytes make
 abbrev pub low64 : List ℕ → ℕ → ℕ
@@ -16,11 +15,6 @@ low8 n rest = low4 (n % 4294967296) (low4 (n / 4294967296) rest)
 
 abbrev pub eight_bytes : ℕ → ℕ
 eight_bytes n = low64 (low8 n []) 0
-
-pub low64_read_back : (n : ℕ) → n < 2 ^ 64 → eight_bytes n ≡ n
-low64_read_back n h =
-    ap₂ (λ (a b : ℕ). a + 4294967296 * b) (low32_read_back (n % 4294967296) (omega arith)) (low32_read_back (n / 4294967296) (omega arith))
-    ∙ omega arith
 
 -- two words are those of the number that they make
 pub two_words : (a b : ℕ) → a < 4294967296 → (rest : List ℕ) → low4 a (low4 b rest) ≡ low8 (a + 4294967296 * b) rest

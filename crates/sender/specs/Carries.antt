@@ -15,10 +15,12 @@ use Rattle.slots.specs.Slots.{Within, first_at, or_else, is_at}
 use Rattle.slots.specs.Searches.{first_some}
 use Rattle.transfer.specs.declared.State.{State}
 use Rattle.transfer.specs.declared.State.TheVariants.{Closed, Open}
-use Rattle.transfer.specs.Kept.{Directed, ChangeFits, announce_fits, announce_opens_for, ask_fits, ask_opens_for, hear_fits, hear_opens_for}
+use Rattle.transfer.specs.Kept.{Directed, ChangeFits, ask_fits, ask_opens_for, hear_fits, hear_opens_for}
+use Rattle.transfer.proofs.Kept.{announce_fits, announce_opens_for}
 use Rattle.sender_bytes.specs.Places.{last_place}
 use Rattle.sender_bytes.specs.Layout.{sender_at, transfers_at}
-use Rattle.sender_bytes.specs.Changed.{OwnOf, own_of, four_transfers, changed_at}
+use Rattle.sender_bytes.specs.Changed.{OwnOf, own_of, four_transfers}
+use Rattle.sender_bytes.proofs.Changed.{changed_at}
 use Rattle.words.specs.Words.{low32}
 use Rattle.sender.specs.Transfers.{is_free, holds, first_free, key_place, slot_for, state_in, in_bounds, ready_in}
 use Rattle.sender.specs.Calls.{Decides, key_in, announces, asks, hears_from, applied_in, decided_in}

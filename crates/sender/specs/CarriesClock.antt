@@ -12,7 +12,8 @@ use Rattle.transfer.specs.declared.State.TheVariants.{Closed}
 use Rattle.transfer.specs.Kept.{ChangeFits}
 use Rattle.sender_bytes.specs.Places.{record_length}
 use Rattle.sender_bytes.specs.Layout.{Sender, sender_at, transfers_at, with_transfer}
-use Rattle.sender_bytes.specs.Changed.{OwnOf, length_changed, changed_at, length_put_last, put_last_at}
+use Rattle.sender_bytes.specs.Changed.{OwnOf, length_put_last, put_last_at}
+use Rattle.sender_bytes.proofs.Changed.{length_changed, changed_at}
 use Rattle.sender.specs.declared.reading.SenderReading.{SenderReading}
 use Rattle.sender.specs.Transfers.{in_bounds, ready_in}
 use Rattle.sender.specs.Clock.{end_of, change_by, one_elapsed, elapsed_in, reading_in}

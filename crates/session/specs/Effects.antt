@@ -3,9 +3,8 @@
 use Rattle.std.specs.Prelude.{◌≡◌, ℕ, Bool, true, false, cond, not, ◌||◌, ◌⊎◌, ◌==◌, nat_lt, refl}
 use Rattle.std.proofs.Common.{inl, inr}
 use Rattle.frame.specs.Refusals.{number_of}
-use Rattle.frame.specs.Pgn.{pgn_ok}
 use Rattle.frame.specs.declared.refusal.Refusal.{Refusal}
-use Rattle.frame.specs.declared.refusal.Refusal.TheVariants.{PgnForm, AnnouncementForm, TooLong, Assurance, KeyOpen, SlotsFull, KeyNotOpen, FormatIndicator, AlreadyTaken, OutOfSequence, SegmentCut, StatusMismatch, RequestsSpent}
+use Rattle.frame.specs.declared.refusal.Refusal.TheVariants.{AnnouncementForm, KeyOpen, SlotsFull, KeyNotOpen, FormatIndicator, AlreadyTaken, OutOfSequence, SegmentCut, StatusMismatch, RequestsSpent}
 use Rattle.transport.specs.Kinds.{is_rts}
 use Rattle.transport.specs.declared.Key.{Key}
 use Rattle.transport.specs.declared.announcement.Announcement.{Announcement}
@@ -18,13 +17,13 @@ use Rattle.progress.specs.Forward.{cts_due, advanced_by}
 use Rattle.session.specs.declared.Session.{Session}
 use Rattle.session.specs.declared.State.{State}
 use Rattle.session.specs.declared.State.TheVariants.{Closed, Open}
-use Rattle.session.specs.declared.Change.TheVariants.{Stays, Opens, Moves, Ends}
+use Rattle.session.specs.declared.Change.TheVariants.{Stays, Moves, Ends}
 use Rattle.session.specs.declared.Step.{Step}
 use Rattle.session.specs.declared.announcement.Form.{Form}
 use Rattle.session.specs.declared.announcement.Form.TheVariants as form
 use Rattle.session.specs.declared.segment.Judged.{Judged}
 use Rattle.session.specs.declared.segment.Judged.TheVariants as judged
-use Rattle.session.specs.Announcements.{misdirected, bad_numbers, form_of, session_of, first_cts}
+use Rattle.session.specs.Announcements.{misdirected, form_of}
 use Rattle.session.specs.Segments.{due_of, already_in, out_of_turn, judged_of, next_cts}
 use Rattle.session.specs.Decisions.{stays, ended, if_open, rejection, accepted_if, is_restart, for_key, on_form, announced_to, on_judged, segment_open, segment_to, message_of, status_to, abort_to}
 use Rattle.session.specs.Cases.{by_status}
@@ -52,42 +51,8 @@ Hands x slot (answer.Ended e) = Unit {0}
 Hands x slot (answer.RefusedRts j) = Unit {0}
 Hands x slot (answer.Refused n) = Unit {0}
 
-refuses : (x : State) (a : Answer) → mild (answer_number a) ≡ true → Effect x (stays a)
+pub refuses : (x : State) (a : Answer) → mild (answer_number a) ≡ true → Effect x (stays a)
 refuses x a e = keeps refl e
-
-rejects : (x : State) (k : Key) (a : Announcement) (n : Refusal) → mild (number_of n) ≡ true → Effect x (stays (rejection k a n))
-rejects x k a n e = go (is_rts a.kind)
-  where
-    go : (t : Bool) → Effect x (stays (cond t (answer.RefusedRts (record { key = k; refusal = n; pgn = a.pgn })) (answer.Refused n)))
-    go true = refuses x (answer.RefusedRts (record { key = k; refusal = n; pgn = a.pgn })) e
-    go false = refuses x (answer.Refused n) e
-
-accepted_effect : (x : State) (t : Bool) (n : Refusal) (k : Key) (a : Announcement) (last : ℕ) → mild (number_of n) ≡ true → Effect x (accepted_if t n k a last)
-accepted_effect x false n k a last e = rejects x k a n e
-accepted_effect x true n k a last e = go (is_rts a.kind)
-  where
-    go : (t : Bool) → Effect x (record { change = Opens (session_of k a last); answer = cond t (answer.Grant (first_cts k a)) (answer.Opened k) })
-    go true = accepts refl
-    go false = accepts refl
-
-for_key_effect : (x : State) (room : Bool) (k : Key) (a : Announcement) (last : ℕ) → Effect x (for_key x room k a last)
-for_key_effect (Open s) room k a last = accepted_effect (Open s) (is_restart s a) KeyOpen k a last refl
-for_key_effect Closed room k a last = accepted_effect Closed room SlotsFull k a last refl
-
-pub announce_effect : (x : State) (room : Bool) (k : Key) (a : Announcement) (last : ℕ) → Effect x (announced_to x room k a last)
-unfolding announced_to form_of
-announce_effect x room k a last = go (misdirected k.da a.kind) (bad_numbers a) (nat_lt 4096 a.total.0) (not (a.assurance == 0)) (not (pgn_ok a.pgn))
-  where
-    go : (t b c d e : Bool)
-        → Effect x (cond t (stays (answer.Refused AnnouncementForm))
-        (on_form (cond b (form.Bad AnnouncementForm)
-        (cond c (form.Bad TooLong) (cond d (form.Bad Assurance) (cond e (form.Bad PgnForm) form.Good)))) x room k a last))
-    go true b c d e = refuses x (answer.Refused AnnouncementForm) refl
-    go false true c d e = rejects x k a AnnouncementForm refl
-    go false false true d e = rejects x k a TooLong refl
-    go false false false true e = rejects x k a Assurance refl
-    go false false false false true = rejects x k a PgnForm refl
-    go false false false false false = for_key_effect x room k a last
 
 -- only 19 ends a session at a segment
 segment_open_lem : (s : Session) (n room last : ℕ) → Effect (Open s) (on_judged (judged_of s n room) s n last)

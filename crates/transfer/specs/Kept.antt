@@ -251,7 +251,7 @@ module _ (k : Key) (last : ℕ) where
   for_key_good Closed room pgn n e =
       either_way (Good Closed) (not room) (λ r. (tt, tt)) (λ r. (opened_in_lem (offer_of k pgn n) last e, (refl, refl)))
 
-  announce_good : (x : State) (room : Bool) (pgn n : ℕ) → Good x (announced_to x room k pgn n last)
+  pub announce_good : (x : State) (room : Bool) (pgn n : ℕ) → Good x (announced_to x room k pgn n last)
   unfolding announced_to offer_tests
   announce_good x room pgn n =
       either_way (Good x) (not (destination_ok k)) (λ e. (tt, tt)) (λ d.
@@ -340,14 +340,14 @@ transfer_fits t e m =
       course = record { next = omega arith; granted = omega arith; mark = m };
     }
 
-change_fits : (k : Key) (last : ℕ) → last < 4294967296 → (x : State) (c : Change) → Keeps x c × Marked k last c → ChangeFits c
+pub change_fits : (k : Key) (last : ℕ) → last < 4294967296 → (x : State) (c : Change) → Keeps x c × Marked k last c → ChangeFits c
 change_fits k last h x Stays g = tt
 change_fits k last h x (Opens t) (e, m) = transfer_fits t e (omega arith)
 change_fits k last h Closed (Moves c) (e, m) = absurd e
 change_fits k last h (Open t) (Moves c) (e, m) = (transfer_fits (record { offer = t.offer; course = c }) e (omega arith)).course
 change_fits k last h x Ends g = tt
 
-change_for : (k : Key) (last : ℕ) (x : State) (c : Change) → Keeps x c × Marked k last c → OpensFor k c
+pub change_for : (k : Key) (last : ℕ) (x : State) (c : Change) → Keeps x c × Marked k last c → OpensFor k c
 change_for k last x Stays g = tt
 change_for k last x (Opens t) g = g.1.0
 change_for k last x (Moves c) g = tt
@@ -357,16 +357,6 @@ change_for k last x Ends g = tt
 
 some_key : Key
 some_key = record { sa = record { 0 = 0 }; da = record { 0 = 0 }; session = record { 0 = 0 } }
-
-module _ (x : State) (room : Bool) (k : Key) (pgn n last : ℕ) where
-  pub announce_kept : Keeps x (announced_to x room k pgn n last).change
-  announce_kept = (announce_good k last x room pgn n).0
-
-  pub announce_fits : last < 4294967296 → ChangeFits (announced_to x room k pgn n last).change
-  announce_fits h = change_fits k last h x (announced_to x room k pgn n last).change (announce_good k last x room pgn n)
-
-  pub announce_opens_for : OpensFor k (announced_to x room k pgn n last).change
-  announce_opens_for = change_for k last x (announced_to x room k pgn n last).change (announce_good k last x room pgn n)
 
 module _ (x : State) (n last : ℕ) (ok : state_ok x ≡ true) where
   pub ask_kept : Keeps x (asked_to x n last).change

@@ -7,7 +7,7 @@ use lib.ListN.{length, take, drop, replicate, length-append, length-drop, length
 use lib.Seq.{paste, length-take-le}
 use Rattle.laws.specs.Pastes.{paste_own, paste_next}
 use Rattle.frame.specs.Lengths.{frame_length}
-use Rattle.frame.specs.LengthLaws.{frame_bounds, frame_gap}
+use Rattle.frame.proofs.LengthLaws.{frame_bounds, frame_gap}
 use Rattle.transport.specs.declared.Key.{Key}
 use Rattle.transport.specs.Heads.{laid_in}
 use Rattle.transport.specs.Segments.{front_of, filler, segment_bytes}

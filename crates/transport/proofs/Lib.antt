@@ -1,2 +1,3 @@
 mod Written
 mod Laid
+pub mod ReadBack

@@ -13,7 +13,7 @@ use Rattle.frame.specs.Identifiers.{identifier_of}
 use Rattle.frame.specs.Inverse.{read_of_id}
 use Rattle.frame.specs.Judge.{route_of}
 use Rattle.frame.specs.Lengths.{frame_length}
-use Rattle.frame.specs.LengthLaws.{frame_bounds}
+use Rattle.frame.proofs.LengthLaws.{frame_bounds}
 use Rattle.frame.specs.Octets.{low3, low24}
 use Rattle.frame.specs.declared.Address.{Address}
 use Rattle.frame.specs.declared.identifier.Identifier.{Identifier}
@@ -31,13 +31,12 @@ use Rattle.transport.specs.declared.response.Response.{Response}
 use Rattle.transport.specs.declared.response.Response.TheVariants.{Cts, Eoma, Abort}
 use Rattle.transport.specs.declared.response.ResponseRead.{ResponseRead}
 use Rattle.transport.specs.declared.response.ResponseRead.TheVariants as read
-use Rattle.transport.specs.Heads.{head, control_at, key_of, session_key_of, id_to, to_originator}
+use Rattle.transport.specs.Heads.{head, control_at, key_of, id_to}
 use Rattle.transport.specs.Announcements.{announcement_bytes}
 use Rattle.transport.specs.Eoms.{status_bytes}
 use Rattle.transport.specs.Aborts.{abort_bytes}
 use Rattle.transport.specs.Segments.{data_at, data_frame_of, filler, segment_bytes}
 use Rattle.transport.specs.Control.{by_control, control_of}
-use Rattle.transport.specs.Responses.{response_id, response_key, response_bytes, by_response, response_of}
 
 -- Three bytes hold a number below 2^24.
 abbrev pub Three : ℕ → Type 0
@@ -49,11 +48,11 @@ three_bytes n = low24 (low3 n []) 0
 pub low24_read_back : (n : ℕ) → Three n → three_bytes n ≡ n
 low24_read_back n h = omega arith
 
-two_read_back : {A : Type 0} (g : ℕ → ℕ → A) (a b : ℕ) → Three a → Three b → g (three_bytes a) (three_bytes b) ≡ g a b
+pub two_read_back : {A : Type 0} (g : ℕ → ℕ → A) (a b : ℕ) → Three a → Three b → g (three_bytes a) (three_bytes b) ≡ g a b
 two_read_back g a b p q =
     ap (λ (x : ℕ). g x (three_bytes b)) (low24_read_back a p) ∙ ap (g a) (low24_read_back b q)
 
-three_read_back : {A : Type 0} (g : ℕ → ℕ → ℕ → A) (a b c : ℕ) → Three a → Three b → Three c → g (three_bytes a) (three_bytes b) (three_bytes c) ≡ g a b c
+pub three_read_back : {A : Type 0} (g : ℕ → ℕ → ℕ → A) (a b c : ℕ) → Three a → Three b → Three c → g (three_bytes a) (three_bytes b) (three_bytes c) ≡ g a b c
 three_read_back g a b c p q r =
     ap (λ (x : ℕ). g x (three_bytes b) (three_bytes c)) (low24_read_back a p) ∙ two_read_back (g a) b c q r
 
@@ -76,18 +75,15 @@ id_read_back pf to from p t f =
     (record { priority = omega arith; extended = omega arith; page = omega arith })
 
 module _ (k : Key) (fits : KeyFits k) (n : ℕ) (small : n < 16) (rest : List ℕ) where
-  session_back : (n + 16 * k.session.0) % 256 / 16 % 16 ≡ k.session.0
+  pub session_back : (n + 16 * k.session.0) % 256 / 16 % 16 ≡ k.session.0
   session_back = let s : k.session.0 < 16 = fits.session in omega arith
 
-  control_back : control_at (head n k ∷ rest) ≡ n
+  pub control_back : control_at (head n k ∷ rest) ≡ n
   control_back = let s : k.session.0 < 16 = fits.session in omega arith
 
   -- a frame of the originator's, control or data
   pub key_read_back : (pf : ℕ) → key_of (route_of (fields_to pf k.da k.sa)) (head n k ∷ rest) ≡ k
   key_read_back pf = ap (λ (x : ℕ). record { sa = k.sa; da = k.da; session = record { 0 = x } }) session_back
-
-  reply_key_back : session_key_of (route_of (fields_to 77 k.sa k.da)) (head n k ∷ rest) ≡ k
-  reply_key_back = ap (λ (x : ℕ). record { sa = k.sa; da = k.da; session = record { 0 = x } }) session_back
 
   module _ (long : length rest ≡ 11) where
     -- a frame with the control n is read by what n says
@@ -97,15 +93,6 @@ module _ (k : Key) (fits : KeyFits k) (n : ℕ) (small : n < 16) (rest : List �
         let d : List ℕ = head n k ∷ rest in
         sym (else (not (eqb (length d) 12)) _ _ _ (ap not (eq-eqb (length d) 12 (omega arith))) refl)
         ∙ ap (by_control d) control_back
-
-    by_response_lem : response_of (route_of (identifier_of (to_originator k))) (head n k ∷ rest) ≡ by_response k (head n k ∷ rest) n
-    unfolding response_of
-    by_response_lem =
-        let d : List ℕ = head n k ∷ rest in
-        ap (λ (i : Identifier). response_of (route_of i) d) (id_read_back 77 k.sa k.da (omega arith) fits.sa fits.da)
-        ∙ sym (else (not (eqb (length d) 12)) _ _ _ (ap not (eq-eqb (length d) 12 (omega arith))) refl)
-        ∙ ap (λ (x : Key). by_response x d (control_at d)) reply_key_back
-        ∙ ap (by_response k d) control_back
 
 -- ---- a responder's frames
 
@@ -123,27 +110,6 @@ read_of (Abort f) = read.Abort f
 
 abbrev pub reply_fields : Key → Identifier
 reply_fields k = fields_to 77 k.sa k.da
-
-reply_read_back : (k : Key) → KeyFits k → identifier_of (to_originator k) ≡ reply_fields k
-reply_read_back k fits = id_read_back 77 k.sa k.da (omega arith) fits.sa fits.da
-
--- The frame that is written for a response, identifier and bytes, is read as that response.
-pub read_back : (f : Response) → Fits f
-    → (response_of (route_of (identifier_of (response_id f))) (response_bytes f) ≡ read_of f)
-    × (identifier_of (response_id f) ≡ reply_fields (response_key f))
-unfolding response_bytes
-read_back (Cts f) (k, n, p) =
-    let made : ℕ → ℕ → ResponseRead =
-    λ (next pgn : ℕ). read.Cts (record { cts = record { key = f.key; next = record { 0 = next }; count = f.count; pgn = pgn }; request = 0 }) in
-    (by_response_lem f.key k 1 (omega arith) _ refl ∙ two_read_back made f.next.0 f.pgn n p, reply_read_back f.key k)
-read_back (Eoma f) (k, n, s, p) =
-    let made : ℕ → ℕ → ℕ → ResponseRead =
-    λ (total segments pgn : ℕ). read.Eoma (record { key = f.key; total = record { 0 = total }; segments = record { 0 = segments }; pgn = pgn }) in
-    (by_response_lem f.key k 3 (omega arith) _ refl ∙ three_read_back made f.total.0 f.segments.0 f.pgn n s p, reply_read_back f.key k)
-read_back (Abort f) (k, p) =
-    let made : ℕ → ResponseRead =
-    λ (pgn : ℕ). read.Abort (record { key = f.key; reason = f.reason; pgn = pgn }) in
-    (by_response_lem f.key k 15 (omega arith) _ refl ∙ ap made (low24_read_back f.pgn p), reply_read_back f.key k)
 
 -- ---- an originator's frames: the receiver reads what was announced, that it is over, that it is broken off
 

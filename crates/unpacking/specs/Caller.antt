@@ -8,7 +8,7 @@ use Rattle.std.proofs.Math.ListN.{length, drop, get_or-append}
 use Rattle.std.proofs.lemmas.Bool.{not-false}
 use Rattle.laws.specs.Choice.{else}
 use Rattle.frame.specs.Lengths.{is_length}
-use Rattle.frame.specs.LengthLaws.{length_to}
+use Rattle.frame.proofs.LengthLaws.{length_to}
 use Rattle.frame.specs.declared.refusal.Refusal.{Refusal}
 use Rattle.frame.specs.declared.refusal.Refusal.TheVariants.{FrameLength, OutOfBounds}
 use Rattle.multi_pg.specs.declared.Group.{Group}

@@ -2,7 +2,7 @@
 use Rattle.std.specs.Prelude.{ℕ, ◌+◌, ◌*◌, ◌≤◌, ◌≡◌, refl, true, List, length}
 use Rattle.std.proofs.Common.{arith}
 use Rattle.frame.specs.Lengths.{is_length}
-use Rattle.frame.specs.LengthLaws.{length_to}
+use Rattle.frame.proofs.LengthLaws.{length_to}
 use Rattle.multi_pg.specs.declared.Group.{Group}
 use Rattle.multi_pg.specs.Groups.{GroupsRead, good, bad, groups_read, groups_in, groups_of}
 use Rattle.multi_pg.specs.Places.{here_end}

@@ -4,7 +4,7 @@ use lib.ListN.{length}
 use native.Mathlib.Omega.{arith}
 use borrow.Author.Tests.{not-true, not-false}
 use Rattle.frame.specs.Lengths.{frame_length}
-use Rattle.frame.specs.LengthLaws.{frame_bounds}
+use Rattle.frame.proofs.LengthLaws.{frame_bounds}
 use Rattle.packing.specs.Packing.{Request, needed, request_fits}
 use Rattle.packing.specs.Shapes.{Met, request_met}
 use Rattle.packing.proofs.Outcomes.{fitted_true, fitted_need, fitted_over, faulty, eight, accepted}

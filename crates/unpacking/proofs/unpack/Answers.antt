@@ -7,7 +7,7 @@ use lib.ListN.{length}
 use borrow.Author.Tests.{eq-eqb, ne_eqb, not-true, not-false}
 use Rattle.laws.specs.Choice.{then, else}
 use Rattle.frame.specs.Lengths.{is_length}
-use Rattle.frame.specs.LengthLaws.{length_to}
+use Rattle.frame.proofs.LengthLaws.{length_to}
 use Rattle.frame.specs.declared.refusal.Refusal.TheVariants.{FrameLength, OutOfBounds}
 use Rattle.multi_pg.specs.Groups.{groups_read}
 use Rattle.unpacking.specs.declared.Unpacked.{Unpacked}

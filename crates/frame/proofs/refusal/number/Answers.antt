@@ -3,7 +3,7 @@ use mathlib.Core.Path.{refl, sym, ap, ◌∙◌}
 use lib.Dec.{eqb}
 use borrow.Author.Tests.{eq-eqb, ne_eqb}
 use Rattle.laws.specs.Choice.{then, else}
-use Rattle.frame.specs.Numbers.{number_placed}
+use Rattle.frame.proofs.Numbers.{number_placed}
 use Rattle.frame.proofs.refusal.number.Goals as goal
 
 pub returns-then-at-eq28 : goal.returns-then-at-eq28

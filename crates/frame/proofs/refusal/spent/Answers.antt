@@ -3,7 +3,7 @@ use mathlib.Core.Path.{refl, sym, ap, ◌∙◌}
 use lib.Dec.{eqb}
 use borrow.Author.Tests.{eq-eqb, ne_eqb}
 use Rattle.laws.specs.Choice.{then, else}
-use Rattle.frame.specs.Numbers.{spent_placed}
+use Rattle.frame.proofs.Numbers.{spent_placed}
 use Rattle.frame.proofs.refusal.spent.Goals as goal
 
 pub returns-then-place-eq28 : goal.returns-then-place-eq28

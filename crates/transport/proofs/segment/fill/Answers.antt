@@ -1,5 +1,5 @@
 use native.Mathlib.Omega.{arith}
-use Rattle.frame.specs.LengthLaws.{frame_bounds, frame_gap}
+use Rattle.frame.proofs.LengthLaws.{frame_bounds, frame_gap}
 use Rattle.transport.proofs.Laid.{filled}
 use Rattle.transport.proofs.segment.fill.Goals as goal
 

@@ -17,7 +17,8 @@ use Rattle.record_bytes.specs.Places.{record_length, head_length, slot_length, s
 use Rattle.record_bytes.specs.Layout.{session_at, state_bytes, slot_bytes, slot_at, codes_ok, codes_in, head_bytes, pieces, pieces_of, codes_all, is_record, record_at}
 use Rattle.record_bytes.specs.Pieces.{length_slot, length_pieces}
 use Rattle.record_bytes.specs.Keeping.{kept, merged, put_in}
-use Rattle.record_bytes.specs.RoundTrip.{SlotsFit, RecordFits, state_back, codes_state, headed, head_back}
+use Rattle.record_bytes.specs.RoundTrip.{SlotsFit, RecordFits, codes_state}
+use Rattle.record_bytes.proofs.RoundTrip.{state_back, headed, head_back}
 use Rattle.words.specs.Laws.{four_bytes}
 
 -- ---- a slot
