@@ -35,8 +35,6 @@ def declared(path):
         m = DECLARED.match(line)
         if not m or m.group(2) in NOT_NAMES or not re.match(r"[a-z]", m.group(2)):
             continue
-        if line.startswith("     "):
-            continue
         if path.endswith("Proof.antt") and (GENERATED.match(m.group(3)) or "statement M" in m.group(3)):
             continue
         yield m.group(2), "abbrev" in m.group(1) or "unfoldable" in m.group(1) or re.search("[a-z][A-Z]", m.group(2)) is not None

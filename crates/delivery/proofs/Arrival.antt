@@ -60,12 +60,12 @@ module _ (s : Setting) (fair : Fair s) (κ : Kind) (goes : Goes κ s.key) (r : M
   rest_at_lem (moving j zero g true) st h = absurd (full _ _ h.forward)
   rest_at_lem (moving j zero g false) st h = absurd (go st.unspent)
     where
-      none-due : frames_due s (transfer_at κ s r.senders_mark (j + 0) g false) r.senders_last ≡ []
-      none-due = none_given s (transfer_at κ s r.senders_mark (j + 0) g false) r.senders_last h.nothing
+      none_due : frames_due s (transfer_at κ s r.senders_mark (j + 0) g false) r.senders_last ≡ []
+      none_due = none_given s (transfer_at κ s r.senders_mark (j + 0) g false) r.senders_last h.nothing
 
       go : (j < g) ⊎ (j ≡ count s) → ⊥
-      go (inl l) = given s r.senders_last (gives_segment s r.senders_mark r.senders_last (j + 0) g κ (omega arith) st.sent.bound) none-due
-      go (inr e) = given s r.senders_last (gives_eoms s r.senders_mark r.senders_last (j + 0) g κ goes (omega arith)) none-due
+      go (inl l) = given s r.senders_last (gives_segment s r.senders_mark r.senders_last (j + 0) g κ (omega arith) st.sent.bound) none_due
+      go (inr e) = given s r.senders_last (gives_eoms s r.senders_mark r.senders_last (j + 0) g κ goes (omega arith)) none_due
   rest_at_lem acknowledging st h = absurd (full _ _ h.backward)
   rest_at_lem done st h = (handed_whole κ s goes, refl)
 

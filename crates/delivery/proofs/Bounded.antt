@@ -26,7 +26,7 @@ use Rattle.sender.specs.Transfers.{in_bounds, ready_in}
 use Rattle.sender.specs.Calls.{Decides, key_in, announces, asks, hears_from, applied_in, decided_in, on_verdict, hear_in}
 use Rattle.sender.specs.Model.{Stepped, announce_step, ask_step, by_verdict, frame_step, reading_step, key_of}
 use Rattle.sender.specs.Facts.{ready_long, ready_bounds}
-use Rattle.sender.specs.Carries.{key_below, slot_below, announce-carried, ask-carried, hear-carried}
+use Rattle.sender.specs.Carries.{key_below, slot_below, announce_carried, ask_carried, hear_carried}
 use Rattle.sender.specs.Clock.{reading_in}
 use Rattle.sender.specs.CarriesClock.{reading_long, reading_carried}
 use Rattle.delivery.proofs.Sides.{in_bounds_lem, announce_called, ask_called, frame_is, hear_called, routed_aimed, reading_reads}
@@ -69,13 +69,13 @@ module _ (b : List ℕ) (ready : ready_in b ≡ true) where
     announce_ready da session pgn n =
         let d : Decides = announces (sender_at b) (key_in b da session) pgn n in
         record_ready _ (as_long d.place d.step.change (slot_below b (key_in b da session)))
-        (ap in_bounds (announce-carried b ready small da session pgn n) ∙ announce_bounded (sender_at b) (ready_bounds b ready) da session pgn n)
+        (ap in_bounds (announce_carried b ready small da session pgn n) ∙ announce_bounded (sender_at b) (ready_bounds b ready) da session pgn n)
 
     pub ask_ready : (da : Address) (session : SessionNumber) (n : ℕ) → ready_in (decided_in b (asks (sender_at b) (key_in b da session) n)).1 ≡ true
     ask_ready da session n =
         let d : Decides = asks (sender_at b) (key_in b da session) n in
         record_ready _ (as_long d.place d.step.change (key_below b (key_in b da session)))
-        (ap in_bounds (ask-carried b ready small da session n) ∙ ask_bounded (sender_at b) (ready_bounds b ready) da session n)
+        (ap in_bounds (ask_carried b ready small da session n) ∙ ask_bounded (sender_at b) (ready_bounds b ready) da session n)
 
     pub frame_ready : (id : ℕ) (d : List ℕ) → ready_in (hear_in b id d).1 ≡ true
     unfolding hear_in
@@ -89,7 +89,7 @@ module _ (b : List ℕ) (ready : ready_in b ≡ true) where
         go (verdict.Control ρ) j =
             let e : Decides = hears_from (sender_at b) ρ d in
             record_ready _ (as_long e.place e.step.change (key_below b (session_key_of ρ d)))
-            (ap in_bounds (hear-carried b ready small ρ d (routed_aimed (own_at b) id (length d) ρ j)
+            (ap in_bounds (hear_carried b ready small ρ d (routed_aimed (own_at b) id (length d) ρ j)
             ∙ sym (ap (λ (x : Stepped). x.1) (frame_is (sender_at b) (ready_bounds b ready) id d ∙ ap (λ (u : Verdict). by_verdict u (sender_at b) d) j)))
             ∙ frame_bounded (sender_at b) (ready_bounds b ready) id d)
 

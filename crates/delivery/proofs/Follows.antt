@@ -55,7 +55,7 @@ use Rattle.delivery.proofs.Rights.{Rights, rights_join}
 use Rattle.delivery.proofs.SafeSender.{Sending, closed, sending, fits_asked, fits_heard, at_reading}
 use Rattle.delivery.proofs.Queues.{right_reads, Responses, responses_join, Answers, Aimed, rule_answers}
 use Rattle.delivery.proofs.Sides.{Ready, in_bounds_lem, Acts, Called, Leaves, asks_own, ask_aside_lem, announce_aside_lem, hear_called, hear_aside_lem, reading_reads}
-use Rattle.delivery.proofs.Receiving.{Becomes, session_aimed, frame-replies, frame-becomes, aside-becomes, aside-hands, reading_becomes, reading_stays}
+use Rattle.delivery.proofs.Receiving.{Becomes, session_aimed, frame_replies, frame_becomes, aside_becomes, aside_hands, reading_becomes, reading_stays}
 
 -- ---- the link that a system stands for, with a world of rules that explains its receiver
 
@@ -240,11 +240,11 @@ module _ (s : Setting) (fair : Fair s) (y : System) (w : World) (h : Fits s y w)
 
     reply : answer_of (frame_all y.receiver f.0 f.1 y.store) ≡ out.1
     unfolding out
-    reply = frame-replies s.values y.receiver y.store w h.sim s.key f.0 f.1 read.0 read.1.key read.1.body slot
+    reply = frame_replies s.values y.receiver y.store w h.sim s.key f.0 f.1 read.0 read.1.key read.1.body slot
 
     becomes : Becomes s.values s.key y.receiver.last out.0 (frame_all y.receiver f.0 f.1 y.store).0.next (frame_all y.receiver f.0 f.1 y.store).1
     unfolding out
-    becomes = frame-becomes s.values y.receiver y.store w h.sim s.key f.0 f.1 read.0 read.1.key read.1.body slot
+    becomes = frame_becomes s.values y.receiver y.store w h.sim s.key f.0 f.1 read.0 read.1.key read.1.body slot
 
     answers : Answers s (answer_of (frame_all y.receiver f.0 f.1 y.store))
     unfolding out
@@ -374,12 +374,12 @@ module _ (s : Setting) (fair : Fair s) (y : System) (w : World) (h : Fits s y w)
   frame_next : (id : ℕ) (d : List ℕ) → MeetsAt s y (frame_aside id d) → Next (step s y (frame_aside id d)) none
   unfolding step aside
   frame_next id d other =
-      let b = aside-becomes s.values y.receiver y.store w h.sim s.key id d other in
+      let b = aside_becomes s.values y.receiver y.store w h.sim s.key id d other in
       record {
         world = b.world;
         fits = record { ready = h.ready; own = h.own; limit = h.limit; sim = b.sim; transfer = h.transfer; forth = h.forth; back = h.back };
         same = same_link refl refl refl b.session
-            (ap (λ (l : List Says). y.handed ++ l) (aside-hands s.values y.receiver y.store w h.sim s.key id d other) ∙ append-nil y.handed)
+            (ap (λ (l : List Says). y.handed ++ l) (aside_hands s.values y.receiver y.store w h.sim s.key id d other) ∙ append-nil y.handed)
             refl refl b.last refl;
       }
 

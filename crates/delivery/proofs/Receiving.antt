@@ -80,34 +80,34 @@ module _ (v : Values) (r : Receiver) (m : List ℕ) (w : World) (sim : Sim v r m
     -- ---- a frame of the key
 
     module _ (b : Body) (mine : frame_key id d ≡ k) (body : body_of v.own id d ≡ some b) (free : is_announcement b ≡ true → is_at (first_free r.slots) ≡ true) where
-      told-no : (is_announcement b && eight_others w k) ≡ false
-      told-no = go (is_announcement b) refl
+      told_no : (is_announcement b && eight_others w k) ≡ false
+      told_no = go (is_announcement b) refl
         where
           go : (t : Bool) → is_announcement b ≡ t → (t && eight_others w k) ≡ false
           go true e = not_eight (free e)
           go false e = refl
 
-      sees-it : sees v w k (lent (frame id d)) ≡ rules.mine false b ∷ []
+      sees_it : sees v w k (lent (frame id d)) ≡ rules.mine false b ∷ []
       unfolding sees sees_body
-      sees-it = rw (body, mine, eq-eqb k k refl, told-no)
+      sees_it = rw (body, mine, eq-eqb k k refl, told_no)
 
       frame_says : rules.answer (answer_of (frame_all r id d m)) ∷ [] ≡ rules.answer (rule v k (w k).last false (w k).session b).1 ∷ []
       unfolding shows frame_seen is_own is_body outputs output
-      frame_says = rw (body, mine, eq-eqb k k refl, sees-it) at (kept.says k)
+      frame_says = rw (body, mine, eq-eqb k k refl, sees_it) at (kept.says k)
 
       first : (a c : Reply) → rules.answer a ∷ [] ≡ rules.answer c ∷ [] → a ≡ c
       first a c e = cc
 
-      pub frame-replies : answer_of (frame_all r id d m) ≡ (rule v k r.last false (w k).session b).1
-      frame-replies = first _ _ frame_says ∙ ap (λ (n : ℕ). (rule v k n false (w k).session b).1) (sim.last k)
+      pub frame_replies : answer_of (frame_all r id d m) ≡ (rule v k r.last false (w k).session b).1
+      frame_replies = first _ _ frame_says ∙ ap (λ (n : ℕ). (rule v k n false (w k).session b).1) (sim.last k)
 
-      pub frame-becomes : Becomes v k r.last (rule v k r.last false (w k).session b).0 (frame_all r id d m).0.next (frame_all r id d m).1
+      pub frame_becomes : Becomes v k r.last (rule v k r.last false (w k).session b).0 (frame_all r id d m).0.next (frame_all r id d m).1
       unfolding record_after store_after world_after after next_state
-      frame-becomes = record {
+      frame_becomes = record {
         world = world_after v w (lent (frame id d));
         sim = kept.next;
-        session = rw sees-it (ap (λ (n : ℕ). (rule v k n false (w k).session b).0) (sim.last k));
-        last = sym (kept.next.last k) ∙ rw sees-it (sim.last k);
+        session = rw sees_it (ap (λ (n : ℕ). (rule v k n false (w k).session b).0) (sim.last k));
+        last = sym (kept.next.last k) ∙ rw sees_it (sim.last k);
       }
 
     -- ---- any other frame
@@ -121,9 +121,9 @@ module _ (v : Values) (r : Receiver) (m : List ℕ) (w : World) (sim : Sim v r m
           go none e = refl
           go (some b) e = rw e
 
-      pub aside-becomes : Becomes v k r.last (w k).session (frame_all r id d m).0.next (frame_all r id d m).1
+      pub aside_becomes : Becomes v k r.last (w k).session (frame_all r id d m).0.next (frame_all r id d m).1
       unfolding record_after store_after world_after after
-      aside-becomes = record {
+      aside_becomes = record {
         world = world_after v w (lent (frame id d));
         sim = kept.next;
         session = rw unseen;
@@ -150,9 +150,9 @@ module _ (v : Values) (r : Receiver) (m : List ℕ) (w : World) (sim : Sim v r m
       hands_none (answer.RefusedRts j) n e = refl
       hands_none (answer.Refused n) m e = refl
 
-      pub aside-hands : handed_for k (answer_of (frame_all r id d m)).says ≡ []
+      pub aside_hands : handed_for k (answer_of (frame_all r id d m)).says ≡ []
       unfolding reply_of
-      aside-hands = hands_none (frame_all r id d m).0.answer (frame_all r id d m).1 quiet
+      aside_hands = hands_none (frame_all r id d m).0.answer (frame_all r id d m).1 quiet
 
   -- ---- a reading
 

@@ -537,13 +537,13 @@ module _ (s : Setting) (fair : Fair s) (goes : Goes Rts s.key) (k : ℕ) (m : Ma
   rest_at_lem (moving g r xs j (suc n)) st h = absurd (full _ _ h.forward)
   rest_at_lem (moving g r xs j zero) st h = absurd (go (dec_lt (j + 0) g) st.unspent st.within)
     where
-      none-due : frames_due s (busy s m.senders_mark r (j + 0) g) m.senders_last ≡ []
-      none-due = none_given s (busy s m.senders_mark r (j + 0) g) m.senders_last h.nothing
+      none_due : frames_due s (busy s m.senders_mark r (j + 0) g) m.senders_last ≡ []
+      none_due = none_given s (busy s m.senders_mark r (j + 0) g) m.senders_last h.nothing
 
       go : Dec (j + 0 < g) → (j < g) ⊎ Last s r g → j + 0 ≤ g → ⊥
-      go (yes l) u w = given s m.senders_last (gives_next s m.senders_mark m.senders_last r (j + 0) g l st.bound) none-due
+      go (yes l) u w = given s m.senders_last (gives_next s m.senders_mark m.senders_last r (j + 0) g l st.bound) none_due
       go (no l) (inl u) w = omega arith
-      go (no l) (inr u) w = given s m.senders_last (gives_last s m.senders_mark m.senders_last r (j + 0) g goes (omega arith) u) none-due
+      go (no l) (inr u) w = given s m.senders_last (gives_last s m.senders_mark m.senders_last r (j + 0) g goes (omega arith) u) none_due
   rest_at_lem (closing g r xs j (suc n)) st h = absurd (full _ _ h.forward)
   rest_at_lem (closing g r xs j zero) st h = absurd (full _ _ h.forward)
   rest_at_lem (acknowledging i) st h = absurd (full _ _ h.backward)

@@ -205,12 +205,12 @@ module _ (s : Setting) (fair : Fair s) (last : ℕ) (q : Silence) (g r : ℕ) (x
   unfolding lacks sess announcement_for is_rts
   on_eoms_any few good = go (ℕ_discrete (length xs) (count s)) (dec_lt r 5)
     where
-      joined-here : length xs ≡ count s → joined (count s) xs ≡ s.message
-      joined-here e = joined_whole (count s) s.message xs (unfold segments_of in refl) good e
+      joined_here : length xs ≡ count s → joined (count s) xs ≡ s.message
+      joined_here e = joined_whole (count s) s.message xs (unfold segments_of in refl) good e
 
       go : Dec (length xs ≡ count s) → Dec (r < 5) → EomsIn s last q g r xs
       go (yes e) d =
-          whole_in (by_eoms ∙ rw (eq-eqb (length xs) (count s) e, joined-here e) (ap (λ (x : Reply). (none, x)) (hands_over_lem Rts s)))
+          whole_in (by_eoms ∙ rw (eq-eqb (length xs) (count s) e, joined_here e) (ap (λ (x : Reply). (none, x)) (hands_over_lem Rts s)))
       go (no n) (yes l) =
           let h : 1 ≤ gap_from (count s) xs = (first_gap (length s.message) (count s) s.message xs good n).from in
           asks_it l n good (gap_from (count s) xs - 1) (omega arith)

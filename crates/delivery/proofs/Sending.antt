@@ -95,16 +95,16 @@ module _ (s : Setting) (mark last i g : ℕ) where
   unfolding open_at course_at
   after_segment_lem l u = rw (ne_eqb i (count s) (λ e. omega arith)) (go (ℕ_discrete (i + 1) (count s)))
     where
-      none-owed : (t : Bool) → (t && false) ≡ false
-      none-owed true = refl
-      none-owed false = refl
+      none_owed : (t : Bool) → (t && false) ≡ false
+      none_owed true = refl
+      none_owed false = refl
 
       owes : Bool → Bool → Course
       owes complete owed = record { next = record { 0 = i + 1 + 1 }; granted = record { 0 = g }; complete = complete; reported = false; owed = owed; mark = last }
 
       go : Dec (i + 1 ≡ count s) → owes (eqb (i + 1) (count s)) (eqb (i + 1) g && eqb (i + 1) (count s)) ≡ owes (eqb (i + 1) (count s)) (eqb (i + 1) (count s) && true)
       go (yes e) = rw (eq-eqb (i + 1) (count s) e, eq-eqb (i + 1) g (omega arith))
-      go (no e) = rw (ne_eqb (i + 1) (count s) e, none-owed (eqb (i + 1) g))
+      go (no e) = rw (ne_eqb (i + 1) (count s) e, none_owed (eqb (i + 1) g))
 
   answers_segment : i < g → g ≤ count s
       → next_frame (open_at s mark i g false) last ≡ moves (course_at s last (i + 1) g false) (reply.Segment (record { 0 = i + 1 }))

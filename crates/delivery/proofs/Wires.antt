@@ -313,7 +313,7 @@ module _ (s : Setting) (fair : Fair s) where
   response_judged e =
       let id : ℕ = to_originator (key_in s) in
       let r : s.values.own.0 < 254 = fair.receiver in
-      let small : id < 536870912 = reply-small in
+      let small : id < 536870912 = reply_small in
       sym (else (leb 536870912 id) _ _ _ (lt-leb 536870912 id small) refl)
       ∙ ap (λ (f : Identifier). cond (not (route_taken (key_in s).sa f)) (Refused NotTaken) (by_format f.pf (route_of f)))
       (id_read_back 77 (key_in s).sa (key_in s).da (omega arith) (key_fits s fair).sa (key_fits s fair).da)
@@ -325,5 +325,5 @@ module _ (s : Setting) (fair : Fair s) where
       )
       (unfold by_format in refl)
     where
-      reply-small : to_originator (key_in s) < 536870912
-      reply-small = let a : s.key / 4096 < 254 = fair.sender in omega arith
+      reply_small : to_originator (key_in s) < 536870912
+      reply_small = let a : s.key / 4096 < 254 = fair.sender in omega arith

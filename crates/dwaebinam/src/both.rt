@@ -8,8 +8,7 @@ use answer_bytes::places::ANSWER_BYTES;
 use node::is_senders;
 
 // Takes one frame: the call of the end that it is for. 23 with all as it was where the answer's buffer has another length.
-#[unsafe(no_mangle)]
-pub extern "C" fn dwb_node_frame(
+pub fn dwb_node_frame(
     buffer: &mut [u8],
     id: u32,
     bytes: &[u8],

@@ -17,16 +17,14 @@ use record_bytes::places::RECORD_BYTES;
 // The version of these calls, of their lengths, places and codes: what include/dwaebinam.h says must be the archive's.
 pub const VERSION: u32 = 5;
 
-#[unsafe(no_mangle)]
-pub extern "C" fn dwb_version() -> u32
+pub fn dwb_version() -> u32
     ensures { result ≡ boundary_version }
 {
     VERSION
 }
 
 // The least length of a frame that holds need bytes; 255 for more than 64.
-#[unsafe(no_mangle)]
-pub extern "C" fn dwb_least_length(need: usize) -> usize
+pub fn dwb_least_length(need: usize) -> usize
     ensures { result ≡ least_or (least_length need) }
 {
     match least_length(need) {
@@ -37,8 +35,7 @@ pub extern "C" fn dwb_least_length(need: usize) -> usize
 
 // Opens a receiver in a buffer of RECORD_BYTES; first and second are its idle limits. An opening that is refused with 23 gives a record that
 // every call refuses; a buffer of another length stays as it was.
-#[unsafe(no_mangle)]
-pub extern "C" fn dwb_open(buffer: &mut [u8], own: u8, first: u32, second: u32, reading: u32) -> u8
+pub fn dwb_open(buffer: &mut [u8], own: u8, first: u32, second: u32, reading: u32) -> u8
     ensures { (result, buffer.new) ≡ opened_in own (record { first = first; second = second }) reading buffer.old }
 {
     if buffer.len() != RECORD_BYTES {
@@ -57,8 +54,7 @@ pub extern "C" fn dwb_open(buffer: &mut [u8], own: u8, first: u32, second: u32, 
 
 // Takes one frame: the answer's number, with the answer written, and the record and the store as the answer says. 23 with all as it was
 // where the answer's buffer has another length.
-#[unsafe(no_mangle)]
-pub extern "C" fn dwb_frame(
+pub fn dwb_frame(
     buffer: &mut [u8],
     id: u32,
     bytes: &[u8],

@@ -6,8 +6,7 @@ use super::pack::refused;
 use unpacking::{Unpacked, unpack};
 
 // The groups of a frame into the front of groups, six numbers for each: how many, or 256 times the number of the refusal.
-#[unsafe(no_mangle)]
-pub extern "C" fn dwb_groups(bytes: &[u8], groups: &mut [u32]) -> usize
+pub fn dwb_groups(bytes: &[u8], groups: &mut [u32]) -> usize
     ensures { (result, groups.new) ≡ unpacked_in bytes.now groups.old }
 {
     match unpack(bytes, groups) {

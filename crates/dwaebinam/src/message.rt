@@ -34,8 +34,7 @@ fn place_in(answer: &[u8]) -> Place
 }
 
 // Copies the message of an answer into the front of out: its length. 0, with out as it was, where there is none or out is too short.
-#[unsafe(no_mangle)]
-pub extern "C" fn dwb_message(answer: &[u8], store: &[u8], out: &mut [u8]) -> usize
+pub fn dwb_message(answer: &[u8], store: &[u8], out: &mut [u8]) -> usize
     ensures { (result, out.new) ≡ copied_in answer.now store.now out.old }
 {
     let bytes = bytes_of(place_in(answer), &store[..0], store);

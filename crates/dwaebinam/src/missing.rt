@@ -9,8 +9,7 @@ use frame::{Address, SessionNumber};
 use transport::Key;
 
 // How many segments of the key's session are not in yet, or 256 times the number of the refusal.
-#[unsafe(no_mangle)]
-pub extern "C" fn dwb_missing(buffer: &[u8], sa: u8, da: u8, session: u8) -> usize
+pub fn dwb_missing(buffer: &[u8], sa: u8, da: u8, session: u8) -> usize
     ensures { result ≡ missing_answer (missing_in buffer.now (record { sa = record { 0 = sa }; da = record { 0 = da }; session = record { 0 = session } })) }
 {
     let key = Key {

@@ -15,8 +15,7 @@ pub fn refused(x: Refusal) -> usize
 }
 
 // Packs groups into the front of out: the frame's length, or 256 times the number of the refusal.
-#[unsafe(no_mangle)]
-pub extern "C" fn dwb_pack(
+pub fn dwb_pack(
     services: &[u8],
     formats: &[u8],
     pgns: &[u32],

@@ -9,13 +9,7 @@ use engine::reading::take_reading;
 
 // Takes one reading: the record and the answers are written. 23 with zeros in answers where the buffer is no record in bounds, and with
 // all as it was where answers has another length.
-#[unsafe(no_mangle)]
-pub extern "C" fn dwb_reading(
-    buffer: &mut [u8],
-    reading: u32,
-    store: &[u8],
-    answers: &mut [u8],
-) -> u8
+pub fn dwb_reading(buffer: &mut [u8], reading: u32, store: &[u8], answers: &mut [u8]) -> u8
     ensures { (result, (buffer.new, answers.new)) ≡ read_in buffer.old reading store.now answers.old }
 {
     if answers.len() != ANSWERS_BYTES {

@@ -15,16 +15,14 @@ use sender::reading::take_reading;
 
 // Opens a sender in a buffer of a record's length. An opening that is refused with 23 gives a record that every call refuses; a buffer of
 // another length stays as it was.
-#[unsafe(no_mangle)]
-pub extern "C" fn dwb_sender_open(buffer: &mut [u8], own: u8, limit: u32, reading: u32) -> u8
+pub fn dwb_sender_open(buffer: &mut [u8], own: u8, limit: u32, reading: u32) -> u8
     ensures { (result, buffer.new) ≡ sender_opened_in own limit reading buffer.old }
 {
     acceptance_number(open(buffer, Address(own), limit, reading))
 }
 
 // Announces a message: the RTS or BAM is laid into out. 23 with all as it was where the answer's buffer has another length.
-#[unsafe(no_mangle)]
-pub extern "C" fn dwb_announce(
+pub fn dwb_announce(
     buffer: &mut [u8],
     da: u8,
     session: u8,
@@ -53,8 +51,7 @@ pub extern "C" fn dwb_announce(
 }
 
 // The next frame of a transfer, laid into out, or nothing due.
-#[unsafe(no_mangle)]
-pub extern "C" fn dwb_next_frame(
+pub fn dwb_next_frame(
     buffer: &mut [u8],
     da: u8,
     session: u8,
@@ -75,13 +72,7 @@ pub extern "C" fn dwb_next_frame(
 }
 
 // Takes one control frame where there is no receiver beside the sender.
-#[unsafe(no_mangle)]
-pub extern "C" fn dwb_sender_frame(
-    buffer: &mut [u8],
-    id: u32,
-    bytes: &[u8],
-    answer: &mut [u8],
-) -> u8
+pub fn dwb_sender_frame(buffer: &mut [u8], id: u32, bytes: &[u8], answer: &mut [u8]) -> u8
     ensures { (result, (buffer.new, answer.new)) ≡ heard_in buffer.old id bytes.now answer.old }
 {
     if answer.len() != ANSWER_BYTES {
@@ -93,8 +84,7 @@ pub extern "C" fn dwb_sender_frame(
 }
 
 // Takes one reading: an answer for each transfer that has ended.
-#[unsafe(no_mangle)]
-pub extern "C" fn dwb_sender_reading(buffer: &mut [u8], reading: u32, answers: &mut [u8]) -> u8
+pub fn dwb_sender_reading(buffer: &mut [u8], reading: u32, answers: &mut [u8]) -> u8
     ensures { (result, (buffer.new, answers.new)) ≡ sender_read_in buffer.old reading answers.old }
 {
     if answers.len() != TRANSFER_ANSWERS_BYTES {

@@ -105,8 +105,8 @@ module _ (b₀ : List ℕ) (limits : IdleLimits) (t : ℕ) where
     one_slot = slot_of_lem b i ∙ ap slot_at one_piece ∙ sym (slot_of_lem b₀ i)
 
     module _ (x : SlotEnd) (o : List ℕ) (e : ◌≡◌ {A = SlotEnd × List ℕ} (x, o) (slot_elapsed b i limits t)) where
-      put-slot-after : o ≡ paste b (slot_place i) (kept (get_or (pieces_of b) i []) (get_or slots_after i free_slot)) slot_length
-      put-slot-after =
+      put_slot_after : o ≡ paste b (slot_place i) (kept (get_or (pieces_of b) i []) (get_or slots_after i free_slot)) slot_length
+      put_slot_after =
           ap (λ (y : SlotEnd × List ℕ). y.1) e
           ∙ ap (λ (s : Slot). paste b (slot_place i) (kept (get_or (pieces_of b) i []) s) slot_length) (ap (expired limits t) one_slot ∙ sym (get_or-map (expired limits t) (slots_at b₀) i free_slot))
 
@@ -117,15 +117,15 @@ module _ (b₀ : List ℕ) (limits : IdleLimits) (t : ℕ) where
           ∙ ap (λ (y : SlotEnd). set (filled f (slots_at b₀) ends₀ i) i y) (ap (λ (y : SlotEnd × List ℕ). y.0) e ∙ ap f one_slot)
           ∙ filled_turn f (slots_at b₀) ends₀ i free_slot stays (omega (arith, length_slots b₀)) (omega arith)
 
-      pub turn-long : length o ≡ record_length
-      turn-long = keeps_long slots_after b₀ b o i free_slot after_eight long low put-slot-after
+      pub turn_long : length o ≡ record_length
+      turn_long = keeps_long slots_after b₀ b o i free_slot after_eight long low put_slot_after
 
-      pub turn-bytes : take (slot_place i) b ++ merged (drop i (pieces_of b₀)) (drop i slots_after) ≡ take head_length b₀ ++ merged (pieces_of b₀) slots_after
+      pub turn_bytes : take (slot_place i) b ++ merged (drop i (pieces_of b₀)) (drop i slots_after) ≡ take head_length b₀ ++ merged (pieces_of b₀) slots_after
           → take (slot_place (i + 1)) o ++ merged (drop (i + 1) (pieces_of b₀)) (drop (i + 1) slots_after) ≡ take head_length b₀ ++ merged (pieces_of b₀) slots_after
-      turn-bytes inv = keeps_turn slots_after b₀ b o i free_slot after_eight long low put-slot-after same inv
+      turn_bytes inv = keeps_turn slots_after b₀ b o i free_slot after_eight long low put_slot_after same inv
 
       pub turn_same : drop (slot_place (i + 1)) o ≡ drop (slot_place (i + 1)) b₀
-      turn_same = keeps_same slots_after b₀ b o i free_slot after_eight long low put-slot-after same
+      turn_same = keeps_same slots_after b₀ b o i free_slot after_eight long low put_slot_after same
 
   -- after the last slot
   pub turns_done : (b : List ℕ) (i : ℕ) (ends : List SlotEnd) → length b ≡ record_length → i ≡ 8 → ends ≡ filled (slot_end limits t) (slots_at b₀) (replicate 8 stays) i

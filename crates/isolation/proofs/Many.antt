@@ -383,11 +383,11 @@ module _ (v : Values) (r : Receiver) (m : List ℕ) (w : World) (sim : Sim v r m
   foreign_keeps body o f = record {
     next = unchanged v r m (world_after v w (lent (frame id d))) o.0.next o.1 (ap (λ (z : Outcome). z.0.next) f.same) (ap (λ (z : Outcome). z.1) f.same)
         (same_sim v r m w (world_after v w (lent (frame id d))) sim (λ j. rw body) (λ j. rw body));
-    says = λ k. rw (body, f.same, plain_quiet f.answer f.plain k, unchanged-lost k);
+    says = λ k. rw (body, f.same, plain_quiet f.answer f.plain k, unchanged_lost k);
   }
     where
-      unchanged-lost : (k : ℕ) → lost k r r ≡ false
-      unchanged-lost k = kept_open v r r m m w w sim sim k refl
+      unchanged_lost : (k : ℕ) → lost k r r ≡ false
+      unchanged_lost k = kept_open v r r m m w w sim sim k refl
 
   pub frame_keeps : (o : Outcome) → Agrees r d m (key_at (frame_key id d)) o (body_of v.own id d) → FrameKeeps v r w id d o
   frame_keeps o agrees = go (body_of v.own id d) refl agrees.does

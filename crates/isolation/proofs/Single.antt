@@ -158,7 +158,7 @@ module _ (v : Values) (k : ℕ) (f : Found) (m : List ℕ) (whole : length m ≡
         same,
         record {
           pieces = tt;
-          same = none-already (is_rts a.kind);
+          same = none_already (is_rts a.kind);
           plain = sure;
           fine = subst (λ (s : Session). session_ok v.own s ≡ true) same (opened_ok v.own (key_at k) a last me.taken aimed good);
         },
@@ -180,9 +180,9 @@ module _ (v : Values) (k : ℕ) (f : Found) (m : List ℕ) (whole : length m ≡
       z : Kept
       z = record { next = cond (is_rts a.kind) 0 1; taken = none_in; missing = cond (is_rts a.kind) a.segments.0 0 }
 
-      none-already : (rts : Bool) (n : ℕ) → 1 ≤ n → false ≡ cond rts (is_in none_in n) (ltb n (cond rts 0 1))
-      none-already true n l = sym (none_in_lem n)
-      none-already false n l = sym (le-ltb n 1 l)
+      none_already : (rts : Bool) (n : ℕ) → 1 ≤ n → false ≡ cond rts (is_in none_in n) (ltb n (cond rts 0 1))
+      none_already true n l = sym (none_in_lem n)
+      none_already false n l = sym (le-ltb n 1 l)
 
       same : session_of (key_at k) a last ≡ record_of k ρ z
       same = rw (kind_same a.kind, grant_same a.max a.segments.0, wait_same (is_rts a.kind))
@@ -471,7 +471,7 @@ module _ (v : Values) (k i : ℕ) (low : suc i ≤ 8) (m : List ℕ) (whole : le
       known : (j : ℕ) → 1 ≤ j → is_taken j (record { number = n; bytes = take (due total n) (data_at d) } ∷ ρ.pieces) ≡ already_in (record_of k ρ' x') j
       known j l = by_test rts
           (λ r.
-          let number : is_number n ≡ true = number_of_lem n turn.low (few-of segments turn.high (agreed x.taken segments x.missing (sound.reached.gathered r).agree).most) in
+          let number : is_number n ≡ true = number_of_lem n turn.low (few_of segments turn.high (agreed x.taken segments x.missing (sound.reached.gathered r).agree).most) in
           ap (λ (t : Bool). eqb n j || t) (in_record r j l)
           ∙ swapped (eqb n j) (eqb j n) (is_in x.taken j) (same_test (eqb n j) (eqb j n) (λ h. eq-eqb j n (sym (eqb-true n j h))) (λ h. eq-eqb n j (sym (eqb-true j n h))))
           ∙ sym (in_put x.taken n number j)
@@ -479,18 +479,18 @@ module _ (v : Values) (k i : ℕ) (low : suc i ≤ 8) (m : List ℕ) (whole : le
           ∙ sym (cond_true rts _ _ r))
           (λ r.
           ap (λ (t : Bool). eqb n j || t) (below r j l)
-          ∙ next-test j n x.next (turn.next r)
+          ∙ next_test j n x.next (turn.next r)
           ∙ ap (ltb j) (sym (cond_false rts _ _ r))
           ∙ sym (cond_false rts _ _ r))
         where
-          few-of : (c : ℕ) → n ≤ c → c ≤ 69 → n ≤ 69
-          few-of c a b = omega arith
+          few_of : (c : ℕ) → n ≤ c → c ≤ 69 → n ≤ 69
+          few_of c a b = omega arith
 
           swapped : (a b t : Bool) → a ≡ b → (a || t) ≡ (t || b)
           swapped a b t e = rw e (or_comm b t)
 
-          next-test : (j n next : ℕ) → n ≡ next → (eqb n j || ltb j next) ≡ ltb j (n + 1)
-          next-test j n next e = same_test (eqb n j || ltb j next) (ltb j (n + 1)) there back
+          next_test : (j n next : ℕ) → n ≡ next → (eqb n j || ltb j next) ≡ ltb j (n + 1)
+          next_test j n next e = same_test (eqb n j || ltb j next) (ltb j (n + 1)) there back
             where
               there : (eqb n j || ltb j next) ≡ true → ltb j (n + 1) ≡ true
               there h = go (or_either (eqb n j) (ltb j next) h)

@@ -215,14 +215,14 @@ module _ (own : Address) (b : List ℕ) (i : ℕ) (h : i < 8) where
         ap (λ (u : Bool). u && session_ok own s && not z) (sym f) ∙ judged (session_ok own s) z s refl refl refl
 
     module _ (t : x ≡ true) (y : Bool) (s : Session) (es : s ≡ session_at (take slot_length (drop (slot_place i) b))) (ey : y ≡ session_ok own s) where
-      pub no-bounds : y ≡ false → false ≡ open_ready own (get_or (pieces_of b) i []) (pieces_before b i)
-      no-bounds f =
+      pub no_bounds : y ≡ false → false ≡ open_ready own (get_or (pieces_of b) i []) (pieces_before b i)
+      no_bounds f =
           let z : Bool = any_holds s.announced.key (slots_before b i) in
           ap (λ (u : Bool). u && false && not z) (sym t) ∙ ap (λ (u : Bool). x && u && not z) (sym f) ∙ judged y z s es ey refl
 
-      pub no-twin : y ≡ true → (z : Bool) → z ≡ any_holds s.announced.key (slots_before b i)
+      pub no_twin : y ≡ true → (z : Bool) → z ≡ any_holds s.announced.key (slots_before b i)
           → not z ≡ open_ready own (get_or (pieces_of b) i []) (pieces_before b i)
-      no-twin g z ez =
+      no_twin g z ez =
           ap (λ (u : Bool). u && true && not z) (sym t) ∙ ap (λ (u : Bool). x && u && not z) (sym g) ∙ judged y z s es ey ez
 
 -- ---- the whole buffer: length, store and opening values, and then the pieces

@@ -69,33 +69,33 @@ module _ (q : Request) (out : ℕ) where
         go false d = late (leb (needed q) 64) (lists_even q) (bytes_whole q out) refl refl refl d
 
     module _ (small : 4 * length q.pgns + x + y ≤ 64) where
-      is-due : due ≡ true
-      is-due = go due refl
+      is_due : due ≡ true
+      is_due = go due refl
         where
           go : (t : Bool) → due ≡ t → t ≡ true
           go true d = refl
           go false d = let k : y ≡ 65 = tails_by false d in absurd (omega arith)
 
-      data-sum : x ≡ sum q.lengths
-      data-sum = data_by true is-due
+      data_sum : x ≡ sum q.lengths
+      data_sum = data_by true is_due
 
-      tail-sum : y ≡ sum q.trailers
-      tail-sum = tails_by true is-due
+      tail_sum : y ≡ sum q.trailers
+      tail_sum = tails_by true is_due
 
       low : leb (needed q) 64 ≡ true
-      low = le-leb (needed q) 64 (omega (arith, data-sum, tail-sum))
+      low = le-leb (needed q) 64 (omega (arith, data_sum, tail_sum))
 
       whole_same : (eqb (length q.joined) x && eqb (length q.assured) y && eqb out 64) ≡ bytes_whole q out
       whole_same =
-          ap (λ (k : ℕ). eqb (length q.joined) k && eqb (length q.assured) y && eqb out 64) data-sum
-          ∙ ap (λ (k : ℕ). eqb (length q.joined) (sum q.lengths) && eqb (length q.assured) k && eqb out 64) tail-sum
+          ap (λ (k : ℕ). eqb (length q.joined) k && eqb (length q.assured) y && eqb out 64) data_sum
+          ∙ ap (λ (k : ℕ). eqb (length q.joined) (sum q.lengths) && eqb (length q.assured) k && eqb out 64) tail_sum
 
       pub cut : lists_even q ≡ true → (eqb (length q.joined) x && eqb (length q.assured) y && eqb out 64) ≡ false → 65 ≡ fitted q out
-      cut e f = by true true false true low e (sym whole_same ∙ f) is-due
+      cut e f = by true true false true low e (sym whole_same ∙ f) is_due
 
       pub fits : lists_even q ≡ true → (eqb (length q.joined) x && eqb (length q.assured) y && eqb out 64) ≡ true → 4 * length q.pgns + x + y ≡ fitted q out
       fits e f =
-          (let z : 4 * length q.pgns + x + y ≡ needed q = omega (arith, data-sum, tail-sum) in z) ∙ by true true true true low e (sym whole_same ∙ f) is-due
+          (let z : 4 * length q.pgns + x + y ≡ needed q = omega (arith, data_sum, tail_sum) in z) ∙ by true true true true low e (sym whole_same ∙ f) is_due
 
   pub even_lists : lists_even q ≡ true → (length q.services ≡ length q.trailers) × (length q.formats ≡ length q.trailers) × (length q.lengths ≡ length q.pgns) × (length q.trailers ≡ length q.pgns)
   even_lists e =

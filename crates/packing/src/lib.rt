@@ -33,7 +33,7 @@ pub fn pack(
     out: &mut [u8],
 ) -> Packed
     ensures { (result, out.new) ≡ packed (record {
-      services = services.entry.now;
+      services = services.now;
       formats = formats.now;
       pgns = pgns.now;
       lengths = lengths.now;

@@ -60,7 +60,7 @@ pub fn fitting(
     out: usize,
 ) -> usize
     ensures { result ≡ fitted (record {
-      services = services.entry.now;
+      services = services.now;
       formats = formats.now;
       pgns = pgns.now;
       lengths = lengths.now;

@@ -324,18 +324,18 @@ module _ (d m : List ℕ) (b : Bytes d) (c : Bytes m) where
   unfolding frame_all segment_step
   frame_bytes r id = go (is_ready r m) (judged r.own id (length d))
     where
-      datas-bytes : (x : DataFrame) (k : Key) → Bytes (on_data x r k d m).1
-      datas-bytes (dataframe.Segment sg) k =
+      datas_bytes : (x : DataFrame) (k : Key) → Bytes (on_data x r k d m).1
+      datas_bytes (dataframe.Segment sg) k =
           let f : Found = slot_for k r.slots in
           let x : State = state_in f r.slots in
           stored_bytes (segment_to x sg r.last).change f x sg.number.0
-      datas-bytes (dataframe.Refused n) k = c
+      datas_bytes (dataframe.Refused n) k = c
 
       go : (t : Bool) (v : Verdict) → Bytes (cond t (on_verdict v r d m) (refused r OutOfBounds, m)).1
       go false v = c
       go true (verdict.MultiPg route) = c
       go true (verdict.Control route) = c
-      go true (verdict.Data route) = datas-bytes (data_frame_of d) (key_of route d)
+      go true (verdict.Data route) = datas_bytes (data_frame_of d) (key_of route d)
       go true (verdict.Refused n) = c
 
 -- ---- the bytes of an answer: a message's, at most 4,096

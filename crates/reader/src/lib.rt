@@ -62,7 +62,7 @@ pub fn rest<'a>(r: Reader<'a>) -> Reader<'a>
     Reader { frame: r.frame, at }
 }
 
-// Here and below the parameters are plain, so a caller needs no walk: the place of a reader made over a frame.
+// Here and below the parameters are plain: the place of a reader made over a frame.
 pub fn first_place(frame: &[u8]) -> usize
     ensures { result ≡ (over_of frame.entry).at }
 {

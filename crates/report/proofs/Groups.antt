@@ -61,17 +61,17 @@ module _ (d : List ℕ) (route : Route) (room : ℕ) where
         ∙ k.same
 
     module _ (g : Group) (to : Cursor) (q : next_at d at ≡ next.Given g to) where
-      pub counting-cut : left_by left (length (group_line route g)) ≡ Short → Short ≡ left_by room (length (group_lines route (groups_of d)))
+      pub counting_cut : left_by left (length (group_line route g)) ≡ Short → Short ≡ left_by room (length (group_lines route (groups_of d)))
       unfolding group_lines
-      counting-cut e =
+      counting_cut e =
           let (hs, p, y) = rest_given d g to k.yields q in
           left_first left (group_line route g) (group_lines route hs) e
           ∙ ap (λ (gs : List Group). left_by left (length (group_lines route gs))) (sym p)
           ∙ k.same
 
-      pub counting-on : (l : ℕ) → left_by left (length (group_line route g)) ≡ Enough l → (p : ℕ) → p ≡ rest_at d at → Counting d route room p l
+      pub counting_on : (l : ℕ) → left_by left (length (group_line route g)) ≡ Enough l → (p : ℕ) → p ≡ rest_at d at → Counting d route room p l
       unfolding group_lines
-      counting-on l e n w =
+      counting_on l e n w =
           let (hs, p, y) = rest_given d g to k.yields q in
           record {
             rest = hs;
@@ -114,11 +114,11 @@ module _ (o : List ℕ) (first : ℕ) (d : List ℕ) (route : Route) where
       ahead =
           subst (λ (gs : List Group). Going o first (group_lines route (groups_of d)) out place (group_lines route gs)) (rest_given d g to k.yields q).1 k.going
 
-      pub printing-room : place + length (group_line route g) ≤ length out
-      printing-room = going_room o first (group_lines route (groups_of d)) room out place (group_line route g) (group_lines route after) ahead
+      pub printing_room : place + length (group_line route g) ≤ length out
+      printing_room = going_room o first (group_lines route (groups_of d)) room out place (group_line route g) (group_lines route after) ahead
 
-      pub printing-on : (p : ℕ) (e : List ℕ) → PutAt out place (group_line route g) p e → (n : ℕ) → n ≡ rest_at d at → Printing o first d route e n p
-      printing-on p e w n x =
+      pub printing_on : (p : ℕ) (e : List ℕ) → PutAt out place (group_line route g) p e → (n : ℕ) → n ≡ rest_at d at → Printing o first d route e n p
+      printing_on p e w n x =
           record {
             rest = after;
             yields = subst (λ (k : ℕ). Yields d k after) (sym (rest_place d at g to q n x)) (rest_given d g to k.yields q).2;

@@ -134,14 +134,14 @@ module _ (d : List ℕ) (k : ℕ) (b m o : List ℕ) (p : ℕ) where
         omega arith
 
     module _ (next q₂ : ℕ) (b₂ m₂ o₂ : List ℕ) (t : TookBy o₁ q (turn_at in_bytes b₁ m₁ d at) next q₂ b₂ m₂ o₂) where
-      pub walk-less : length d - next < length d - at
-      walk-less = let (low, high) = turn_within in_bytes b₁ m₁ d at t.turn in omega arith
+      pub walk_less : length d - next < length d - at
+      walk_less = let (low, high) = turn_within in_bytes b₁ m₁ d at t.turn in omega arith
 
-      pub walk-count : good + 1 ≤ k + length d
-      walk-count = let (low, high) = turn_within in_bytes b₁ m₁ d at t.turn in let g = w.count in omega arith
+      pub walk_count : good + 1 ≤ k + length d
+      walk_count = let (low, high) = turn_within in_bytes b₁ m₁ d at t.turn in let g = w.count in omega arith
 
-      pub walk-on : length b₂ ≡ length b₁ → length m₂ ≡ length m₁ → length o₂ ≡ length o₁ → Walking d k b m o p b₂ m₂ o₂ next q₂ (good + 1)
-      walk-on f g h =
+      pub walk_on : length b₂ ≡ length b₁ → length m₂ ≡ length m₁ → length o₂ ≡ length o₁ → Walking d k b m o p b₂ m₂ o₂ next q₂ (good + 1)
+      walk_on f g h =
           let x : Done (List ℕ) = t.done in
           let (low, high) = turn_within in_bytes b₁ m₁ d at t.turn in
           let count = w.count in

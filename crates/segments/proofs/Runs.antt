@@ -64,8 +64,8 @@ module _ (s : Segments) (fits : s.low < 2 ^ 64) where
               high_is m 0 (omega arith) (omega arith) (sym (digit_mod s.high 5 (m - 65) (omega arith)) ∙ g.below (m - 65) (omega arith))
           go false q false r = in_past_69 s m (ltb-false m 70 r)
 
-      pub gap-over : u < 8 → Gap s n (65 - n + u)
-      gap-over h =
+      pub gap_over : u < 8 → Gap s n (65 - n + u)
+      gap_over h =
           let one : digit (s.high % 2 ^ 5) u ≡ 1 = g.at h in
           let c : u < 5 = digit_past (s.high % 2 ^ 5) 5 u (mod-lt s.high (pow_pos 5)) one in
           let e : n + (65 - n + u) ≡ 65 + u = omega arith in
@@ -75,8 +75,8 @@ module _ (s : Segments) (fits : s.low < 2 ^ 64) where
                 ap (is_in s) e ∙ high_is (65 + u) 1 (omega arith) (omega arith) (ap (digit s.high) p ∙ sym (digit_mod s.high 5 u c) ∙ one);
           }
 
-      pub gap-none : 8 ≤ u → Gap s n 255
-      gap-none h = record { missing = λ m l k. go m l (ltb m 70) refl; ends = λ k. absurd (omega arith) }
+      pub gap_none : 8 ≤ u → Gap s n 255
+      gap_none h = record { missing = λ m l k. go m l (ltb m 70) refl; ends = λ k. absurd (omega arith) }
         where
           go : (m : ℕ) → n ≤ m → (v : Bool) → ltb m 70 ≡ v → is_in s m ≡ false
           go m l true q = let c : m < 70 = ltb-true m 70 q in over m l (omega arith)

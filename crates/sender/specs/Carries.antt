@@ -57,18 +57,18 @@ module _ (b : List ℕ) (ready : ready_in b ≡ true) where
       abbrev k : Key
       k = key_in b da session
 
-      pub announce-carried : (pgn n : ℕ) → sender_at (decided_in b (announces (sender_at b) k pgn n)).1 ≡ (announce_step (sender_at b) da session pgn n).1
+      pub announce_carried : (pgn n : ℕ) → sender_at (decided_in b (announces (sender_at b) k pgn n)).1 ≡ (announce_step (sender_at b) da session pgn n).1
       unfolding announce_step
-      announce-carried pgn n =
+      announce_carried pgn n =
           let f : Found = slot_for k (transfers_at b) in
           let x : State = state_in f (transfers_at b) in
           carried (announces (sender_at b) k pgn n) (slot_below b k) (announce_fits x (is_at f) k pgn n (low32 b last_place) small)
           (own_of b k (announces (sender_at b) k pgn n).step.change refl (announce_opens_for x (is_at f) k pgn n (low32 b last_place)))
           ∙ ap (λ (y : Stepped). y.1) (then (in_bounds (sender_at b)) _ _ _ (ready_bounds b ready) refl)
 
-      pub ask-carried : (n : ℕ) → sender_at (decided_in b (asks (sender_at b) k n)).1 ≡ (ask_step (sender_at b) da session n).1
+      pub ask_carried : (n : ℕ) → sender_at (decided_in b (asks (sender_at b) k n)).1 ≡ (ask_step (sender_at b) da session n).1
       unfolding ask_step
-      ask-carried n =
+      ask_carried n =
           let f : Found = key_place k (transfers_at b) in
           let x : State = state_in f (transfers_at b) in
           let ok = state_ok_lem b f ready in
@@ -89,8 +89,8 @@ module _ (b : List ℕ) (ready : ready_in b ≡ true) where
           go Closed h = tt
           go (Open t) h = λ q. aimed (sym (eqb-true _ _ (each_of (eqb t.offer.key.sa.0 κ.sa.0 ∷ eqb t.offer.key.da.0 κ.da.0 ∷ eqb t.offer.key.session.0 κ.session.0 ∷ []) h).1.0) ∙ q)
 
-      pub hear-carried : sender_at (decided_in b (hears_from (sender_at b) route d)).1 ≡ (stepped (sender_at b) (hears_from (sender_at b) route d)).1
-      hear-carried =
+      pub hear_carried : sender_at (decided_in b (hears_from (sender_at b) route d)).1 ≡ (stepped (sender_at b) (hears_from (sender_at b) route d)).1
+      hear_carried =
           let f : Found = key_place κ (transfers_at b) in
           let x : State = state_in f (transfers_at b) in
           let ok = state_ok_lem b f ready in

@@ -60,14 +60,14 @@ module _ (word f o : List ℕ) where
         left_short room _ (omega arith)
 
     module _ (h : length word < room) where
-      pub fields-cut : left_by (room - length word - 1) (length (numbers f)) ≡ Short → Short ≡ left_by room (length (line_of word (f ++ o)))
-      fields-cut e =
+      pub fields_cut : left_by (room - length word - 1) (length (numbers f)) ≡ Short → Short ≡ left_by room (length (line_of word (f ++ o)))
+      fields_cut e =
           let n : length (line_of word (f ++ o)) ≡ length word + length (numbers f) + length (numbers o) + 1 = length_line in
           let k : room - length word - 1 < length (numbers f) = short_of _ _ e in
           left_short room _ (omega arith)
 
-      pub line-left : (l : ℕ) → left_by (room - length word - 1) (length (numbers f)) ≡ Enough l → left_by l (length (numbers o)) ≡ left_by room (length (line_of word (f ++ o)))
-      line-left l e =
+      pub line_left : (l : ℕ) → left_by (room - length word - 1) (length (numbers f)) ≡ Enough l → left_by l (length (numbers o)) ≡ left_by room (length (line_of word (f ++ o)))
+      line_left l e =
           let (k, q) = enough_of (room - length word - 1) (length (numbers f)) l e in
           let j : l ≡ room - (length word + 1 + length (numbers f)) = omega arith in
           let n : length word + 1 + length (numbers f) + length (numbers o) ≡ length (line_of word (f ++ o)) = omega (arith, length_line) in
@@ -80,8 +80,8 @@ module _ (word f o : List ℕ) where
     text_room = omega (arith, length_line)
 
     module _ (p1 : ℕ) (o1 : List ℕ) (a : PutAt d at word p1 o1) where
-      pub fields-room : p1 + length (numbers f) ≤ length o1
-      fields-room =
+      pub fields_room : p1 + length (numbers f) ≤ length o1
+      fields_room =
           let l : length o1 ≡ length d = put_same d at word p1 o1 text_room a in
           let p : p1 ≡ at + length word = a.place in
           omega (arith, length_line)
@@ -90,12 +90,12 @@ module _ (word f o : List ℕ) where
         two : PutAt d at (word ++ numbers f) p2 o2
         two = put_then d at word p1 o1 text_room a (numbers f) p2 o2 b
 
-        two-room : at + length (word ++ numbers f) ≤ length d
-        two-room = omega (arith, length_line, length-append word (numbers f))
+        two_room : at + length (word ++ numbers f) ≤ length d
+        two_room = omega (arith, length_line, length-append word (numbers f))
 
-        pub octets-room : p2 + length (numbers o) ≤ length o2
-        octets-room =
-            let l : length o2 ≡ length d = put_same d at (word ++ numbers f) p2 o2 two-room two in
+        pub octets_room : p2 + length (numbers o) ≤ length o2
+        octets_room =
+            let l : length o2 ≡ length d = put_same d at (word ++ numbers f) p2 o2 two_room two in
             let p : p2 ≡ at + length (word ++ numbers f) = two.place in
             omega (arith, length_line, length-append word (numbers f))
 
@@ -104,18 +104,18 @@ module _ (word f o : List ℕ) where
           front = (word ++ numbers f) ++ numbers o
 
           three : PutAt d at front p3 o3
-          three = put_then d at (word ++ numbers f) p2 o2 two-room two (numbers o) p3 o3 c
+          three = put_then d at (word ++ numbers f) p2 o2 two_room two (numbers o) p3 o3 c
 
           length_front : length front + 1 ≡ length (line_of word (f ++ o))
           length_front = sym (ap length parts ∙ length-append front (10 ∷ []))
 
-          pub feed-room : p3 < length o3
-          feed-room =
+          pub feed_room : p3 < length o3
+          feed_room =
               let l : length o3 ≡ length d = put_same d at front p3 o3 (omega (arith, length_front)) three in
               let p : p3 ≡ at + length front = three.place in
               omega (arith, length_front)
 
-          pub line-put : PutAt d at (line_of word (f ++ o)) (p3 + 1) (set o3 p3 10)
-          line-put =
+          pub line_put : PutAt d at (line_of word (f ++ o)) (p3 + 1) (set o3 p3 10)
+          line_put =
               subst (λ (x : List ℕ). PutAt d at x (p3 + 1) (set o3 p3 10)) (sym parts)
-              (put_then d at front p3 o3 (omega (arith, length_front)) three (10 ∷ []) (p3 + 1) (set o3 p3 10) (put_set o3 p3 10 feed-room))
+              (put_then d at front p3 o3 (omega (arith, length_front)) three (10 ∷ []) (p3 + 1) (set o3 p3 10) (put_set o3 p3 10 feed_room))

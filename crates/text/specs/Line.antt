@@ -130,20 +130,20 @@ module _ (d : List ℕ) (at : ℕ) (x y : List ℕ) (inside : at ≤ length d) w
     first_room = let (a, b) = enough_of _ _ l e in omega arith
 
     module _ (m : ℕ) (s : left_by l (length y) ≡ left.Enough m) where
-      both-room : at + length (x ++ y) ≤ length d
-      both-room =
+      both_room : at + length (x ++ y) ≤ length d
+      both_room =
           let (a, b) = enough_of _ _ l e in
           let (f, g) = enough_of _ _ m s in
           let n : length (x ++ y) ≡ length x + length y = length-append x y in
           omega arith
 
       module _ (p : ℕ) (o : List ℕ) (w : PutAt d at x p o) where
-        pub second-room : p + length y ≤ length o
-        second-room =
+        pub second_room : p + length y ≤ length o
+        second_room =
             let k : length o ≡ length d = put_same d at x p o first_room w in
             let q : p ≡ at + length x = w.place in
             let n : length (x ++ y) ≡ length x + length y = length-append x y in
-            omega (arith, both-room)
+            omega (arith, both_room)
 
-        pub placed-both : (q : ℕ) (r : List ℕ) → PutAt o p y q r → Placed d at (x ++ y) (wrote.Written q) r
-        placed-both q r v = placed_put d at (x ++ y) both-room q r (put_then d at x p o first_room w y q r v)
+        pub placed_both : (q : ℕ) (r : List ℕ) → PutAt o p y q r → Placed d at (x ++ y) (wrote.Written q) r
+        placed_both q r v = placed_put d at (x ++ y) both_room q r (put_then d at x p o first_room w y q r v)

@@ -15,11 +15,11 @@ module _ {A : Type 0} (f : List A → List ℕ) (g : A → List ℕ) (none : f [
       here =
           subst (λ (r : List ℕ). Going d at (f l) o p r) (turn f l i z h ∙ more (get_or l i z) (drop (i + 1) l)) w
 
-      pub walk-room : p + length (g (get_or l i z)) ≤ length o
-      walk-room = going_room d at (f l) room o p (g (get_or l i z)) (f (drop (i + 1) l)) here
+      pub walk_room : p + length (g (get_or l i z)) ≤ length o
+      walk_room = going_room d at (f l) room o p (g (get_or l i z)) (f (drop (i + 1) l)) here
 
-      pub walk-on : (q : ℕ) (e : List ℕ) → PutAt o p (g (get_or l i z)) q e → Going d at (f l) e q (f (drop (i + 1) l))
-      walk-on q e v = going_on d at (f l) room o p (g (get_or l i z)) (f (drop (i + 1) l)) here q e v
+      pub walk_on : (q : ℕ) (e : List ℕ) → PutAt o p (g (get_or l i z)) q e → Going d at (f l) e q (f (drop (i + 1) l))
+      walk_on q e v = going_on d at (f l) room o p (g (get_or l i z)) (f (drop (i + 1) l)) here q e v
 
     pub walk_out : length l ≤ i → PutAt d at (f l) p o
     walk_out h = going_end d at (f l) o p (subst (λ (r : List ℕ). Going d at (f l) o p r) (end f l i h ∙ none) w)
@@ -27,16 +27,16 @@ module _ {A : Type 0} (f : List A → List ℕ) (g : A → List ℕ) (none : f [
   -- the same for the room that is left
   module _ (l : List A) (room left i : ℕ) (inv : left_by left (length (f (drop i l))) ≡ left_by room (length (f l))) where
     module _ (z : A) (h : i < length l) where
-      next-part : f (drop i l) ≡ g (get_or l i z) ++ f (drop (i + 1) l)
-      next-part = turn f l i z h ∙ more (get_or l i z) (drop (i + 1) l)
+      next_part : f (drop i l) ≡ g (get_or l i z) ++ f (drop (i + 1) l)
+      next_part = turn f l i z h ∙ more (get_or l i z) (drop (i + 1) l)
 
       pub count_cut : left_by left (length (g (get_or l i z))) ≡ Short → Short ≡ left_by room (length (f l))
       count_cut e =
-          left_first left (g (get_or l i z)) (f (drop (i + 1) l)) e ∙ ap (λ (x : List ℕ). left_by left (length x)) (sym next-part) ∙ inv
+          left_first left (g (get_or l i z)) (f (drop (i + 1) l)) e ∙ ap (λ (x : List ℕ). left_by left (length x)) (sym next_part) ∙ inv
 
-      pub count-on : (k : ℕ) → left_by left (length (g (get_or l i z))) ≡ Enough k → left_by k (length (f (drop (i + 1) l))) ≡ left_by room (length (f l))
-      count-on k e =
-          left_rest left (g (get_or l i z)) (f (drop (i + 1) l)) k e ∙ ap (λ (x : List ℕ). left_by left (length x)) (sym next-part) ∙ inv
+      pub count_on : (k : ℕ) → left_by left (length (g (get_or l i z))) ≡ Enough k → left_by k (length (f (drop (i + 1) l))) ≡ left_by room (length (f l))
+      count_on k e =
+          left_rest left (g (get_or l i z)) (f (drop (i + 1) l)) k e ∙ ap (λ (x : List ℕ). left_by left (length x)) (sym next_part) ∙ inv
 
     pub count_out : length l ≤ i → Enough left ≡ left_by room (length (f l))
     count_out h = left_none left ∙ ap (λ (x : List ℕ). left_by left (length x)) (sym (end f l i h ∙ none)) ∙ inv

@@ -95,14 +95,14 @@ module _ (b m s : List ℕ) (id : ℕ) (d a : List ℕ) where
           (cond (not y) (Sender (reply.Refused OutOfBounds), (b, (m, s)))
           (cond z (by_sender b m (hear_in s id d)) (by_receiver s (frame_in b id d m))))
 
-      not-receiver : {A : Type 0} (x : Answer) → sender_answers (answer_bytes x) ≡ true → A
-      not-receiver x e = absurd (false≢true (sym (answer_code x) ∙ e))
+      not_receiver : {A : Type 0} (x : Answer) → sender_answers (answer_bytes x) ≡ true → A
+      not_receiver x e = absurd (false≢true (sym (answer_code x) ∙ e))
 
       go : (x y z : Bool) → sender_answers (node_bytes (by x y z).0) ≡ true → Stays b m (node_told (by x y z))
-      go false y z e = not-receiver (answer.Refused OutOfBounds) e
+      go false y z e = not_receiver (answer.Refused OutOfBounds) e
       go true false z e = (refl, refl)
       go true true true e = (refl, refl)
-      go true true false e = not-receiver (frame_in b id d m).0 e
+      go true true false e = not_receiver (frame_in b id d m).0 e
 
 -- ---- bytes that are seen not to move
 

@@ -27,18 +27,18 @@ module _ (d : List ℕ) (at identifier : ℕ) (s : List ℕ) (h : at + length (r
     identifier_room = front_room o₁ m₁ (number_bytes identifier) (counted s) after_kind
 
     module _ {m₂ : ℕ} {o₂ : List ℕ} (p₂ : Put o₁ m₁ (number_bytes identifier) m₂ o₂) where
-      after-identifier : m₂ + length (counted s) ≤ length o₂
-      after-identifier = room_after (counted s) p₂ after_kind
+      after_identifier : m₂ + length (counted s) ≤ length o₂
+      after_identifier = room_after (counted s) p₂ after_kind
 
-      pub length-room : m₂ + length (number_bytes (length s)) ≤ length o₂
-      length-room = front_room o₂ m₂ (number_bytes (length s)) s after-identifier
+      pub length_room : m₂ + length (number_bytes (length s)) ≤ length o₂
+      length_room = front_room o₂ m₂ (number_bytes (length s)) s after_identifier
 
       module _ {m₃ : ℕ} {o₃ : List ℕ} (p₃ : Put o₂ m₂ (number_bytes (length s)) m₃ o₃) where
-        pub bytes-room : m₃ + length s ≤ length o₃
-        bytes-room = room_after s p₃ after-identifier
+        pub bytes_room : m₃ + length s ≤ length o₃
+        bytes_room = room_after s p₃ after_identifier
 
-        pub frame-put : {m₄ : ℕ} {o₄ : List ℕ} → Put o₃ m₃ s m₄ o₄ → Put d at (record_bytes (frame identifier s)) m₄ o₄
-        frame-put p₄ = put_both (named identifier s) p₁ h (put_both (counted s) p₂ after_kind (put_both s p₃ after-identifier p₄))
+        pub frame_put : {m₄ : ℕ} {o₄ : List ℕ} → Put o₃ m₃ s m₄ o₄ → Put d at (record_bytes (frame identifier s)) m₄ o₄
+        frame_put p₄ = put_both (named identifier s) p₁ h (put_both (counted s) p₂ after_kind (put_both s p₃ after_identifier p₄))
 
 -- the size of the whole
 pub frame_size : (identifier : ℕ) (s : List ℕ) {x y z : ℕ} → x ≡ length (number_bytes 1) → y ≡ length (number_bytes identifier) → z ≡ length (number_bytes (length s))

@@ -1,7 +1,7 @@
 use Prim.Native.Nat.{◌-◌}
 use mathlib.Core.Path.{refl}
 use native.Mathlib.Omega.{arith}
-use Rattle.engine.proofs.Elapses.{turn_good, turn_end, turn-long, turn-bytes, turn_same, turns_done}
+use Rattle.engine.proofs.Elapses.{turn_good, turn_end, turn_long, turn_bytes, turn_same, turns_done}
 use borrow.Author.Rules.{rules}
 use Rattle.engine.proofs.reading.expire_all.Goals as goal
 
@@ -20,12 +20,12 @@ expire-requires c = let a = c.args in
 pub loop-i-preserved : goal.loop-i-preserved
 loop-i-preserved c = let a = c.args in
     let l = c.loop-i in (
-      turn-long a.buffer.now a.limits a.t l.buffer l.i l.invariant.0 (omega arith) l.invariant.5 _ _ c.expire.ensures,
+      turn_long a.buffer.now a.limits a.t l.buffer l.i l.invariant.0 (omega arith) l.invariant.5 _ _ c.expire.ensures,
       search rules,
       search rules,
       turn_end a.buffer.now a.limits a.t l.buffer l.i l.invariant.0 (omega arith) l.invariant.5 _ _
           c.expire.ensures _ _ l.invariant.1 l.invariant.3,
-      turn-bytes a.buffer.now a.limits a.t l.buffer l.i l.invariant.0
+      turn_bytes a.buffer.now a.limits a.t l.buffer l.i l.invariant.0
           (omega arith) l.invariant.5 _ _ c.expire.ensures l.invariant.4,
       turn_same a.buffer.now a.limits a.t l.buffer l.i
           l.invariant.0 (omega arith) l.invariant.5 _ _ c.expire.ensures,

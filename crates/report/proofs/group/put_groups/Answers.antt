@@ -1,6 +1,6 @@
 use Prim.Native.Nat.{◌-◌}
 use mathlib.Core.Path.{sym, ◌∙◌}
-use Rattle.report.proofs.Groups.{printing_start, printing_end, printing-room, printing-on, nearer}
+use Rattle.report.proofs.Groups.{printing_start, printing_end, printing_room, printing_on, nearer}
 use Rattle.report.proofs.group.put_groups.Goals as goal
 
 pub loop-group-init : goal.loop-group-init
@@ -14,7 +14,7 @@ returns-in-End c = printing_end _ _ _ _ _ _ _ c.loop-group.invariant (sym c.grou
 
 pub put_group-next-requires : goal.put_group-next-requires
 put_group-next-requires c =
-    printing-room _ _ _ _ _ _ _ c.loop-group.invariant c.requires.frame_in_bounds _ _ (sym c.group_at.ensures ∙ c.in-Given.is)
+    printing_room _ _ _ _ _ _ _ c.loop-group.invariant c.requires.frame_in_bounds _ _ (sym c.group_at.ensures ∙ c.in-Given.is)
 
 pub loop-group-smaller : goal.loop-group-smaller
 loop-group-smaller c =
@@ -22,5 +22,5 @@ loop-group-smaller c =
 
 pub loop-group-preserved : goal.loop-group-preserved
 loop-group-preserved c =
-    printing-on _ _ _ _ _ _ _ c.loop-group.invariant c.requires.frame_in_bounds _ _ (sym c.group_at.ensures ∙ c.in-Given.is) _ _
+    printing_on _ _ _ _ _ _ _ c.loop-group.invariant c.requires.frame_in_bounds _ _ (sym c.group_at.ensures ∙ c.in-Given.is) _ _
     c.put_group-next.ensures _ c.place_after-place.ensures

@@ -1,4 +1,4 @@
-use Rattle.text.specs.Walk.{count_cut, count-on, count_out}
+use Rattle.text.specs.Walk.{count_cut, count_on, count_out}
 use Rattle.report.proofs.Ends.{slot_lines, none, no_ends, more_ends}
 use Prim.Native.Nat.{◌-◌}
 use native.Mathlib.Omega.{arith}
@@ -19,7 +19,7 @@ pub loop-i-preserved : goal.loop-i-preserved
 loop-i-preserved c = (
   omega arith,
   c.loop-i.invariant.1,
-  count-on ends_lines slot_lines no_ends more_ends _ _ _ _ c.loop-i.invariant.2 none
+  count_on ends_lines slot_lines no_ends more_ends _ _ _ _ c.loop-i.invariant.2 none
       (omega (arith, c.loop-i-test.true, c.loop-i.invariant.1)) _
       (sym c.left_after_end.ensures ∙ c.in-Enough.is),
 )

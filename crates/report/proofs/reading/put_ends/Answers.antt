@@ -1,4 +1,4 @@
-use Rattle.text.specs.Walk.{walk-room, walk-on, walk_out}
+use Rattle.text.specs.Walk.{walk_room, walk_on, walk_out}
 use Rattle.report.proofs.Ends.{slot_lines, none, no_ends, more_ends}
 use Prim.Native.Nat.{◌-◌}
 use native.Mathlib.Omega.{arith}
@@ -12,13 +12,13 @@ loop-i-init c = (omega arith, search rules, going_start _ _ _)
 
 pub put_end-next-requires : goal.put_end-next-requires
 put_end-next-requires c =
-    walk-room ends_lines slot_lines no_ends more_ends _ _ _ c.requires _ _ _ c.loop-i.invariant.2 none (omega (arith, c.loop-i-test.true, c.loop-i.invariant.1))
+    walk_room ends_lines slot_lines no_ends more_ends _ _ _ c.requires _ _ _ c.loop-i.invariant.2 none (omega (arith, c.loop-i-test.true, c.loop-i.invariant.1))
 
 pub loop-i-preserved : goal.loop-i-preserved
 loop-i-preserved c = (
   omega arith,
   c.loop-i.invariant.1,
-  walk-on ends_lines slot_lines no_ends more_ends _ _ _ c.requires _ _ _ c.loop-i.invariant.2 none
+  walk_on ends_lines slot_lines no_ends more_ends _ _ _ c.requires _ _ _ c.loop-i.invariant.2 none
       (omega (arith, c.loop-i-test.true, c.loop-i.invariant.1)) _ _ c.put_end-next.ensures,
 )
 

@@ -1,7 +1,7 @@
 use Prim.Native.Nat.{◌-◌}
 use mathlib.Core.Path.{sym, ◌∙◌}
 use native.Mathlib.Omega.{arith}
-use Rattle.run.proofs.Walks.{walk_start, took_by, walk-less, walk-count, walk-on, walk_full, walk_last}
+use Rattle.run.proofs.Walks.{walk_start, took_by, walk_less, walk_count, walk_on, walk_full, walk_last}
 use Rattle.run.proofs.piece.take_records.Goals as goal
 
 pub loop-receiver-init : goal.loop-receiver-init
@@ -15,17 +15,17 @@ returns-in_default c =
 pub overflow_add-good : goal.overflow_add-good
 overflow_add-good c =
     record {
-      fits = let h = walk-count _ _ _ _ _ _ _ _ _ _ _ _ c.loop-receiver.invariant _ _ _ _ _
+      fits = let h = walk_count _ _ _ _ _ _ _ _ _ _ _ _ c.loop-receiver.invariant _ _ _ _ _
           (took_by _ _ _ _ _ c.in-Took.is c.take_record-step.ensures) in let g = c.requires in omega arith;
     }
 
 pub loop-receiver-smaller : goal.loop-receiver-smaller
 loop-receiver-smaller c =
-    walk-less _ _ _ _ _ _ _ _ _ _ _ _ c.loop-receiver.invariant _ _ _ _ _ (took_by _ _ _ _ _ c.in-Took.is c.take_record-step.ensures)
+    walk_less _ _ _ _ _ _ _ _ _ _ _ _ c.loop-receiver.invariant _ _ _ _ _ (took_by _ _ _ _ _ c.in-Took.is c.take_record-step.ensures)
 
 pub loop-receiver-preserved : goal.loop-receiver-preserved
 loop-receiver-preserved c =
-    walk-on _ _ _ _ _ _ _ _ _ _ _ _ c.loop-receiver.invariant _ _ _ _ _
+    walk_on _ _ _ _ _ _ _ _ _ _ _ _ c.loop-receiver.invariant _ _ _ _ _
     (took_by _ _ _ _ _ c.in-Took.is c.take_record-step.ensures) c.take_record-step.auto.receiver
     c.take_record-step.auto.store c.take_record-step.auto.lines
 

@@ -1,7 +1,7 @@
 use native.Mathlib.Omega.{arith}
 use mathlib.Core.Path.{refl}
 use Rattle.text.specs.Line.{numbers, spaced}
-use Rattle.text.specs.Walk.{count_cut, count-on, count_out}
+use Rattle.text.specs.Walk.{count_cut, count_on, count_out}
 use Rattle.text.proofs.Parts.{no_numbers, more_numbers, spaced_short, spaced_left}
 use Rattle.text.proofs.line.left_after_fields.Goals as goal
 
@@ -14,7 +14,7 @@ returns-then-left-digits c =
 
 pub loop-i-preserved : goal.loop-i-preserved
 loop-i-preserved c =
-    (omega arith, count-on numbers spaced no_numbers more_numbers _ _ _ _ c.loop-i.invariant.1 0 c.loop-i-test.true _ (spaced_left _ _ _ c.width-digits.ensures c.if-left-digits.false))
+    (omega arith, count_on numbers spaced no_numbers more_numbers _ _ _ _ c.loop-i.invariant.1 0 c.loop-i-test.true _ (spaced_left _ _ _ c.width-digits.ensures c.if-left-digits.false))
 
 pub returns : goal.returns
 returns c = count_out numbers spaced no_numbers more_numbers _ _ _ _ c.loop-i.invariant.1 c.loop-i-test.false

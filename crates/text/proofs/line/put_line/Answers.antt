@@ -1,5 +1,5 @@
 use native.Mathlib.Omega.{arith}
-use Rattle.text.proofs.Parts.{text_room, fields-room, octets-room, feed-room, line-put}
+use Rattle.text.proofs.Parts.{text_room, fields_room, octets_room, feed_room, line_put}
 use Rattle.text.specs.Put.{put_copied, put_same}
 use Rattle.text.proofs.line.put_line.Goals as goal
 
@@ -14,25 +14,25 @@ copy-requires c =
 
 pub put_fields-second-requires : goal.put_fields-second-requires
 put_fields-second-requires c =
-    fields-room _ _ _ _ _ c.requires _ _ (put_copied _ _ _ c.copy.ensures)
+    fields_room _ _ _ _ _ c.requires _ _ (put_copied _ _ _ c.copy.ensures)
 
 pub put_octets-third-requires : goal.put_octets-third-requires
 put_octets-third-requires c =
-    octets-room _ _ _ _ _ c.requires _ _ (put_copied _ _ _ c.copy.ensures) _ _ c.put_fields-second.ensures
+    octets_room _ _ _ _ _ c.requires _ _ (put_copied _ _ _ c.copy.ensures) _ _ c.put_fields-second.ensures
 
 pub bounds-out-third : goal.bounds-out-third
 bounds-out-third c =
-    feed-room _ _ _ _ _ c.requires _ _ (put_copied _ _ _ c.copy.ensures) _ _ c.put_fields-second.ensures _ _ c.put_octets-third.ensures
+    feed_room _ _ _ _ _ c.requires _ _ (put_copied _ _ _ c.copy.ensures) _ _ c.put_fields-second.ensures _ _ c.put_octets-third.ensures
 
 pub overflow_add-result : goal.overflow_add-result
 overflow_add-result c =
-    let h = (line-put _ _ _ _ _ c.requires _ _ (put_copied _ _ _ c.copy.ensures) _ _ c.put_fields-second.ensures _ _ c.put_octets-third.ensures).place in
+    let h = (line_put _ _ _ _ _ c.requires _ _ (put_copied _ _ _ c.copy.ensures) _ _ c.put_fields-second.ensures _ _ c.put_octets-third.ensures).place in
     omega (arith, h, c.requires, c.well_formed.0.0)
 
 pub shape_of-out : goal.shape_of-out
 shape_of-out c =
-    put_same _ _ _ _ _ c.requires (line-put _ _ _ _ _ c.requires _ _ (put_copied _ _ _ c.copy.ensures) _ _ c.put_fields-second.ensures _ _ c.put_octets-third.ensures)
+    put_same _ _ _ _ _ c.requires (line_put _ _ _ _ _ c.requires _ _ (put_copied _ _ _ c.copy.ensures) _ _ c.put_fields-second.ensures _ _ c.put_octets-third.ensures)
 
 pub returns : goal.returns
 returns c =
-    line-put _ _ _ _ _ c.requires _ _ (put_copied _ _ _ c.copy.ensures) _ _ c.put_fields-second.ensures _ _ c.put_octets-third.ensures
+    line_put _ _ _ _ _ c.requires _ _ (put_copied _ _ _ c.copy.ensures) _ _ c.put_fields-second.ensures _ _ c.put_octets-third.ensures

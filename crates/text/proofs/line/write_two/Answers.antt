@@ -1,7 +1,7 @@
 use native.Mathlib.Omega.{arith}
 use mathlib.Core.Path.{sym, ◌∙◌}
 use mathlib.Core.List.{◌++◌}
-use Rattle.text.specs.Line.{line_of, placed_short, first_short, second_short, first_room, second-room, placed-both}
+use Rattle.text.specs.Line.{line_of, placed_short, first_short, second_short, first_room, second_room, placed_both}
 use Rattle.text.proofs.line.write_two.Goals as goal
 
 pub returns-then-length-at : goal.returns-then-length-at
@@ -31,14 +31,14 @@ put_plain-next-requires c =
 
 pub put_line-requires : goal.put_line-requires
 put_line-requires c =
-    second-room c.args.out.now c.args.at (line_of c.args.first.now c.args.counts.now)
+    second_room c.args.out.now c.args.at (line_of c.args.first.now c.args.counts.now)
     (line_of c.args.word.now (c.args.fields.now ++ c.args.octets.now)) c.if-length-at.false _
     (sym c.left_after_plain.ensures ∙ c.in-Enough.is) _
     (sym c.left_after_line.ensures ∙ c.in-Enough-left_after_line.is) _ _ c.put_plain-next.ensures
 
 pub returns : goal.returns
 returns c =
-    placed-both c.args.out.now c.args.at (line_of c.args.first.now c.args.counts.now)
+    placed_both c.args.out.now c.args.at (line_of c.args.first.now c.args.counts.now)
     (line_of c.args.word.now (c.args.fields.now ++ c.args.octets.now)) c.if-length-at.false _
     (sym c.left_after_plain.ensures ∙ c.in-Enough.is) _
     (sym c.left_after_line.ensures ∙ c.in-Enough-left_after_line.is) _ _ c.put_plain-next.ensures _ _
