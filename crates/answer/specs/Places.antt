@@ -1,21 +1,21 @@
 -- Where the bytes of an answer are: 01, the last paragraph of "Life of a session". What does not lie there gives no byte.
-use Rattle.std.specs.Prelude.{ℕ, ◌-◌, ◌*◌, cond, List, [], leb, ltb, length, take, drop}
+use Rattle.std.specs.Prelude.{ℕ, ◌-◌, ◌*◌, cond, List, [], leb, ltb, length, take, drop, None, Option, Some}
 use Rattle.answer.specs.declared.Answer.{Answer}
 use Rattle.answer.specs.declared.Answer.TheVariants as answer
 use Rattle.answer.specs.declared.place.Place.{Place}
-use Rattle.answer.specs.declared.place.Place.TheVariants.{Group, Message, Nowhere}
+use Rattle.answer.specs.declared.place.Place.TheVariants.{Group, Message}
 
 -- the message that an answer hands over is in its slot; no other answer has bytes of its own
-abbrev pub place_of : Answer → Place
-place_of (answer.Groups route) = Nowhere
-place_of (answer.Opened k) = Nowhere
-place_of (answer.Taken t) = Nowhere
-place_of (answer.Grant c) = Nowhere
-place_of (answer.HandedOver m) = Message m.slot m.total
-place_of (answer.Aborted k) = Nowhere
-place_of (answer.Ended e) = Nowhere
-place_of (answer.RefusedRts j) = Nowhere
-place_of (answer.Refused n) = Nowhere
+abbrev pub place_of : Answer → Option Place
+place_of (answer.Groups route) = None
+place_of (answer.Opened k) = None
+place_of (answer.Taken t) = None
+place_of (answer.Grant c) = None
+place_of (answer.HandedOver m) = Some (Message m.slot m.total)
+place_of (answer.Aborted k) = None
+place_of (answer.Ended e) = None
+place_of (answer.RefusedRts j) = None
+place_of (answer.Refused n) = None
 
 -- the len bytes from start on, where the list has them
 abbrev pub cut_of : List ℕ → ℕ → ℕ → List ℕ
@@ -27,7 +27,7 @@ abbrev pub message_cut : List ℕ → ℕ → ℕ → List ℕ
 message_cut store slot total =
     cond (leb 8 slot) [] (cond (ltb 4096 total) [] (cut_of store (4096 * slot) total))
 
-abbrev pub place_bytes : Place → List ℕ → List ℕ → List ℕ
-place_bytes (Group start len) frame store = cut_of frame start len
-place_bytes (Message slot total) frame store = message_cut store slot total.0
-place_bytes Nowhere frame store = []
+abbrev pub place_bytes : Option Place → List ℕ → List ℕ → List ℕ
+place_bytes (Some (Group start len)) frame store = cut_of frame start len
+place_bytes (Some (Message slot total)) frame store = message_cut store slot total.0
+place_bytes None frame store = []

@@ -69,55 +69,29 @@ pub enum Answer {
     Refused(Refusal),
 }
 
-// Whether a session ended at a reading.
-#[derive(Clone, Copy)]
-pub enum End {
-    Stays,
-    Ended(Ending),
-}
-
-// The same of the session in a slot.
-#[derive(Clone, Copy)]
-pub struct SlotEnd {
-    pub end: End,
-}
-
-// What an opening and a reading answer.
-#[derive(Clone, Copy)]
-pub enum Acceptance {
-    Accepted,
-    Refused(Refusal),
-}
-
 // 01's number of an answer; 0 where nothing is refused.
 pub fn number(a: Answer) -> u8
     ensures { result ≡ answer_number a }
 {
     match a {
-        Answer::Groups(_) => 0,
-        Answer::Opened(_) => 0,
-        Answer::Taken(_) => 0,
-        Answer::Grant(_) => 0,
-        Answer::HandedOver(_) => 0,
-        Answer::Aborted(_) => 0,
-        Answer::Ended(e) => {
-            let n = e.refusal;
-            refusal::number(n)
-        }
-        Answer::RefusedRts(j) => {
-            let n = j.refusal;
-            refusal::number(n)
-        }
+        Answer::Ended(e) => refusal::number(e.refusal),
+        Answer::RefusedRts(j) => refusal::number(j.refusal),
         Answer::Refused(n) => refusal::number(n),
+        Answer::Groups(_)
+        | Answer::Opened(_)
+        | Answer::Taken(_)
+        | Answer::Grant(_)
+        | Answer::HandedOver(_)
+        | Answer::Aborted(_) => 0,
     }
 }
 
-// The same of an opening or a reading.
-pub fn acceptance_number(a: Acceptance) -> u8
+// The same of an opening or a reading, which are accepted or refused.
+pub fn acceptance_number(a: Result<(), Refusal>) -> u8
     ensures { result ≡ acceptance_number a }
 {
     match a {
-        Acceptance::Accepted => 0,
-        Acceptance::Refused(n) => refusal::number(n),
+        Ok(()) => 0,
+        Err(n) => refusal::number(n),
     }
 }

@@ -1,5 +1,5 @@
 -- An answer as bytes of a fixed layout: number, code, key, kind, one byte by the code, PGN, Total Bytes, segment; then the frame that is due.
-use Rattle.std.specs.Prelude.{ℕ, ◌%◌, List, [], ◌∷◌, ◌++◌, replicate}
+use Rattle.std.specs.Prelude.{ℕ, ◌%◌, List, [], ◌∷◌, ◌++◌, replicate, None, Option, Some}
 use Rattle.frame.specs.declared.refusal.Refusal.{Refusal}
 use Rattle.frame.specs.Refusals.{number_of, spent_of}
 use Rattle.transport.specs.declared.Key.{Key}
@@ -12,10 +12,9 @@ use Rattle.answer.specs.declared.Rejection.{Rejection}
 use Rattle.answer.specs.declared.Taken as taken
 use Rattle.answer.specs.declared.Answer.{Answer}
 use Rattle.answer.specs.declared.Answer.TheVariants.{Groups, Opened, Taken, Grant, HandedOver, Aborted, Ended, RefusedRts, Refused}
-use Rattle.answer.specs.declared.sent.Sending.{Sending}
-use Rattle.answer.specs.declared.sent.Sending.TheVariants as sending
-use Rattle.answer.specs.Answers.{answer_sends, sending_of}
+use Rattle.answer.specs.Answers.{answer_sends}
 use Rattle.answer_bytes.specs.declared.Fields.{Fields}
+use Rattle.answer_bytes.specs.declared.Outgoing.{Outgoing}
 use Rattle.record_bytes.specs.Layout.{kind_byte}
 use Rattle.words.specs.Words.{low4}
 use Rattle.answer_bytes.specs.Places.{sent_length}
@@ -85,13 +84,18 @@ fields_bytes f =
 abbrev pub sent_head : ℕ → List ℕ
 sent_head id = 1 ∷ low4 id []
 
+-- a frame that goes out: 1, identifier and 12 bytes; zeros where none does
+abbrev pub outgoing_bytes : Option Outgoing → List ℕ
+outgoing_bytes None = replicate sent_length 0
+outgoing_bytes (Some f) = 1 ∷ low4 f.id f.data
+
 abbrev pub response_sent : Response → List ℕ
 response_sent f = sent_head (response_id f) ++ response_bytes f
 
 -- 1, identifier and 12 bytes; zeros where nothing is sent
-abbrev pub sent_bytes : Sending → List ℕ
-sent_bytes sending.Nothing = replicate sent_length 0
-sent_bytes (sending.Send f) = response_sent f
+abbrev pub sent_bytes : Option Response → List ℕ
+sent_bytes None = replicate sent_length 0
+sent_bytes (Some f) = response_sent f
 
 abbrev pub answer_bytes : Answer → List ℕ
-answer_bytes a = fields_bytes (fields_of a) ++ sent_bytes (sending_of (answer_sends a))
+answer_bytes a = fields_bytes (fields_of a) ++ sent_bytes (answer_sends a)

@@ -1,7 +1,7 @@
 -- A turn of a loop that writes the answers of a reading, each as f gives it.
 use Prim.Native.Nat.{ℕ, ◌+◌, ◌<◌}
 use native.Mathlib.Omega.{arith}
-use Rattle.std.specs.Prelude.{◌≡◌, length, get_or, drop}
+use Rattle.std.specs.Prelude.{◌≡◌, length, get_or, drop, Option}
 use Rattle.std.proofs.Common.{sym, ◌∙◌, take_all}
 use Rattle.std.proofs.Math.Path.{ap}
 use mathlib.Core.List.{List, ◌++◌, append_assoc, append-nil}
@@ -9,19 +9,18 @@ use Rattle.std.proofs.Math.ListN.{take}
 use Rattle.std.proofs.Math.Seq.{paste}
 use Rattle.std.proofs.lemmas.List.Edits.{take-paste, length-paste}
 use Rattle.laws.specs.Turn.{turn, end}
-use Rattle.answer.specs.declared.End.{End}
-use Rattle.answer.specs.declared.SlotEnd.{SlotEnd}
 use Rattle.answer_bytes.specs.Places.{answer_length, answer_place}
 use Rattle.answer_bytes.specs.Ends.{ends_by}
+use Rattle.answer.specs.declared.Ending.{Ending}
 
-module _ (f : End → List ℕ) (size : (x : End) → length (f x) ≡ answer_length) (es : List SlotEnd) (n : ℕ) (o o' : List ℕ) (i : ℕ) (d : SlotEnd)
+module _ (f : Option Ending → List ℕ) (size : (x : Option Ending) → length (f x) ≡ answer_length) (es : List (Option Ending)) (n : ℕ) (o o' : List ℕ) (i : ℕ) (d : Option Ending)
     (many : length es ≡ n) (long : length o ≡ answer_place n) (low : i < n)
-    (e : o' ≡ paste o (answer_place i) (f (get_or es i d).end) answer_length) where
+    (e : o' ≡ paste o (answer_place i) (f (get_or es i d)) answer_length) where
   abbrev p : List ℕ
-  p = f (get_or es i d).end
+  p = f (get_or es i d)
 
   sized : length p ≡ answer_length
-  sized = size (get_or es i d).end
+  sized = size (get_or es i d)
 
   pub ends_long : length o' ≡ answer_place n
   ends_long = ap length e ∙ length-paste o (answer_place i) p answer_length (omega arith) (omega (arith, sized)) ∙ long
@@ -42,7 +41,7 @@ module _ (f : End → List ℕ) (size : (x : End) → length (f x) ≡ answer_le
       ∙ inv
 
 -- after the last one
-pub ends_all : (f : End → List ℕ) (es : List SlotEnd) (n : ℕ) (o w : List ℕ) (i : ℕ) → length es ≡ n → length o ≡ answer_place n → i ≡ n
+pub ends_all : (f : Option Ending → List ℕ) (es : List (Option Ending)) (n : ℕ) (o w : List ℕ) (i : ℕ) → length es ≡ n → length o ≡ answer_place n → i ≡ n
     → take (answer_place i) o ++ ends_by f (drop i es) ≡ w → o ≡ w
 unfolding ends_by
 ends_all f es n o w i many long e inv =

@@ -2,16 +2,16 @@
 // that is due.
 #![tactic(auto)]
 
-ghost use Rattle.std.specs.Prelude.{◌≡◌, ◌+◌, ◌%◌, ◌≤◌, ◌∷◌, length};
+ghost use Rattle.std.specs.Prelude.{◌≡◌, ◌+◌, ◌%◌, ◌≤◌, ◌∷◌, length, Some};
 ghost use Rattle.std.proofs.Math.Seq.{paste};
 ghost use Rattle.words.specs.Words.{low4};
-ghost use Rattle.answer_bytes.specs.Answers.{no_key, keyed, taken_fields, grant_fields, message_fields, ended_fields, session_ended, rejection_fields, refused_fields, fields_of, fields_bytes, response_sent, sent_bytes, answer_bytes};
+ghost use Rattle.answer_bytes.specs.Answers.{no_key, keyed, taken_fields, grant_fields, message_fields, ended_fields, session_ended, rejection_fields, refused_fields, fields_of, fields_bytes, outgoing_bytes, response_sent, sent_bytes, answer_bytes};
 ghost use Rattle.answer_bytes.specs.Places.{answer_length, sent_place, sent_length};
 
 pub mod ends;
 pub mod places;
 
-use answer::sent::{Sending, response_of};
+use answer::sent::response_of;
 use answer::{Answer, Ending, Message, Rejection, Taken};
 use frame::refusal::Refusal;
 use frame::{Address, SessionNumber, refusal};
@@ -25,7 +25,8 @@ use transport::response::Response;
 use transport::{Key, response};
 use words::put_word;
 
-// The fields of an answer; those that it does not have are 0.
+// The fields of an answer; those that it does not have are 0. The codes, 1 to 9 here and 10 to 18 in reply_bytes, and the kinds are bytes of
+// the C interface (docs/WIRE.md), so they are numbers.
 #[derive(Clone, Copy)]
 pub struct Fields {
     pub number: u8,
@@ -38,6 +39,13 @@ pub struct Fields {
     pub total: u32,
     // the segment taken, the next one of a grant, or the count of a message
     pub segment: u32,
+}
+
+// A frame that goes out: its identifier, and the data of a control frame.
+#[derive(Clone, Copy)]
+pub struct Outgoing {
+    pub id: u32,
+    pub data: [u8; 12],
 }
 
 pub fn no_key() -> Key
@@ -54,9 +62,9 @@ pub fn keyed_fields(code: u8, number: u8, key: Key) -> Fields
     ensures { result ≡ keyed code number key }
 {
     Fields {
-        number: number,
-        code: code,
-        key: key,
+        number,
+        code,
+        key,
         kind: 0,
         extra: 0,
         pgn: 0,
@@ -68,55 +76,34 @@ pub fn keyed_fields(code: u8, number: u8, key: Key) -> Fields
 fn taken_fields(t: Taken) -> Fields
     ensures { result ≡ taken_fields t }
 {
-    let key = t.key;
     Fields {
-        number: 0,
-        code: 3,
-        key: key,
-        kind: 0,
-        extra: 0,
-        pgn: 0,
-        total: 0,
         segment: t.number.0,
+        ..keyed_fields(3, 0, t.key)
     }
 }
 
 fn grant_fields(c: Cts) -> Fields
     ensures { result ≡ grant_fields c }
 {
-    let key = c.key;
     Fields {
-        number: 0,
-        code: 4,
-        key: key,
         kind: 1,
         extra: c.count,
         pgn: c.pgn,
-        total: 0,
         segment: c.next.0,
+        ..keyed_fields(4, 0, c.key)
     }
-}
-
-fn slot_byte(slot: usize) -> u8
-    ensures { result ≡ slot % 256 }
-{
-    (slot % 256) as u8
 }
 
 fn message_fields(m: Message) -> Fields
     ensures { result ≡ message_fields m }
 {
-    let key = m.key;
-    let kind = m.kind;
     Fields {
-        number: 0,
-        code: 5,
-        key: key,
-        kind: kind_byte(kind),
-        extra: slot_byte(m.slot),
+        kind: kind_byte(m.kind),
+        extra: (m.slot % 256) as u8,
         pgn: m.pgn,
         total: m.total.0,
         segment: m.segments.0,
+        ..keyed_fields(5, 0, m.key)
     }
 }
 
@@ -124,18 +111,11 @@ fn message_fields(m: Message) -> Fields
 pub fn ended_fields(code: u8, extra: u8, e: Ending) -> Fields
     ensures { result ≡ ended_fields code extra e }
 {
-    let key = e.key;
-    let kind = e.kind;
-    let n = e.refusal;
     Fields {
-        number: refusal::number(n),
-        code: code,
-        key: key,
-        kind: kind_byte(kind),
-        extra: extra,
+        kind: kind_byte(e.kind),
+        extra,
         pgn: e.pgn,
-        total: 0,
-        segment: 0,
+        ..keyed_fields(code, refusal::number(e.refusal), e.key)
     }
 }
 
@@ -143,40 +123,26 @@ pub fn ended_fields(code: u8, extra: u8, e: Ending) -> Fields
 pub fn session_ended(e: Ending) -> Fields
     ensures { result ≡ session_ended e }
 {
-    let n = e.refusal;
-    ended_fields(7, refusal::spent(n), e)
+    ended_fields(7, refusal::spent(e.refusal), e)
 }
 
 fn rejection_fields(j: Rejection) -> Fields
     ensures { result ≡ rejection_fields j }
 {
-    let key = j.key;
-    let n = j.refusal;
     Fields {
-        number: refusal::number(n),
-        code: 8,
-        key: key,
         kind: 1,
-        extra: refusal::spent(n),
+        extra: refusal::spent(j.refusal),
         pgn: j.pgn,
-        total: 0,
-        segment: 0,
+        ..keyed_fields(8, refusal::number(j.refusal), j.key)
     }
 }
 
 fn refused_fields(n: Refusal) -> Fields
     ensures { result ≡ refused_fields n }
 {
-    let key = no_key();
     Fields {
-        number: refusal::number(n),
-        code: 9,
-        key: key,
-        kind: 0,
         extra: refusal::spent(n),
-        pgn: 0,
-        total: 0,
-        segment: 0,
+        ..keyed_fields(9, refusal::number(n), no_key())
     }
 }
 
@@ -216,40 +182,42 @@ pub fn put_fields(f: Fields, out: &mut [u8], at: usize)
     put_word(out, at + SEGMENT_AT, f.segment);
 }
 
-// What goes out, after the fields: whether a frame does, its identifier, a control frame's data.
+// What goes out, after the fields: 1 where a frame does, its identifier, a control frame's data. The 1 is a byte of the layout.
 pub fn put_frame(sends: u8, id: u32, bytes: [u8; 12], out: &mut [u8], at: usize)
     requires { at + answer_length ≤ length out.old }
     ensures { out.new ≡ paste out.old (at + sent_place) (sends ∷ low4 id bytes) sent_length }
 {
-    let sent = [sends];
-    copy(out, at + SENT_AT, &sent, 0, 1);
+    out[at + SENT_AT] = sends;
     put_word(out, at + IDENTIFIER_AT, id);
     copy(out, at + DATA_AT, &bytes, 0, DATA_BYTES);
 }
 
-// A control frame after the fields: 1, identifier, 12 bytes.
-fn put_response(f: Response, out: &mut [u8], at: usize)
+// The frame that goes out, after the fields; zeros where none does.
+pub fn put_outgoing(frame: Option<Outgoing>, out: &mut [u8], at: usize)
     requires { at + answer_length ≤ length out.old }
-    ensures { out.new ≡ paste out.old (at + sent_place) (response_sent f) sent_length }
+    ensures { out.new ≡ paste out.old (at + sent_place) (outgoing_bytes frame) sent_length }
 {
-    let data = response::bytes(f);
-    put_frame(1, response::identifier(f), data, out, at);
+    match frame {
+        None => copy(out, at + SENT_AT, &[0u8; SENT_BYTES], 0, SENT_BYTES),
+        Some(f) => put_frame(1, f.id, f.data, out, at),
+    }
 }
 
-// What is sent, after the fields; zeros where nothing is.
-pub fn put_sending(s: Sending, out: &mut [u8], at: usize)
+fn frame_of(f: Response) -> Outgoing
+    ensures { outgoing_bytes (Some result) ≡ response_sent f }
+{
+    Outgoing {
+        id: response::identifier(f),
+        data: response::bytes(f),
+    }
+}
+
+// The control frame that is sent, after the fields; zeros where none is.
+pub fn put_sending(s: Option<Response>, out: &mut [u8], at: usize)
     requires { at + answer_length ≤ length out.old }
     ensures { out.new ≡ paste out.old (at + sent_place) (sent_bytes s) sent_length }
 {
-    match s {
-        Sending::Nothing => {
-            let none = [0u8; SENT_BYTES];
-            copy(out, at + SENT_AT, &none, 0, SENT_BYTES);
-        }
-        Sending::Send(f) => {
-            put_response(f, out, at);
-        }
-    }
+    put_outgoing(s.map(frame_of), out, at);
 }
 
 // Writes an answer over a buffer of ANSWER_BYTES.

@@ -1,4 +1,6 @@
 -- Demand 3 of document 01 over the boundary: no session can disturb another, for a program in C that lends the bytes.
+use Rattle.std.specs.Prelude.{Err, Ok, Result, ⊤}
+use Rattle.frame.specs.declared.refusal.Refusal.{Refusal}
 use Prim.Native.Nat.{ℕ, ◌<◌}
 use native.Mathlib.Omega.{arith}
 use mathlib.Core.Path.{◌≡◌, refl, sym, ◌∙◌, subst}
@@ -11,7 +13,6 @@ use Rattle.frame.specs.declared.Address.{Address}
 use Rattle.frame.specs.declared.refusal.Refusal.TheVariants.{OutOfBounds}
 use Rattle.slots.specs.Bounds.{values_ok}
 use Rattle.receiver.specs.declared.Receiver.{Receiver}
-use Rattle.answer.specs.declared.Acceptance.TheVariants.{Accepted, Refused}
 use Rattle.answer.specs.Answers.{acceptance_number}
 use Rattle.receiver.specs.Bounds.{opened, opened_with}
 use Rattle.record_bytes.specs.Places.{record_length}
@@ -30,7 +31,7 @@ use Rattle.carried.proofs.Run.{Fine, fine_fits, Carried, carried}
 
 -- it was accepted, and the bytes are those of the record opened
 opens : (own : ℕ) (limits : IdleLimits) (first : ℕ) (d : List ℕ) → (opened_in own limits first d).0 ≡ 0
-    → ((opened (record { 0 = own }) limits first).answer ≡ Accepted) × ((opened_in own limits first d).1 ≡ record_bytes (opened_with (record { 0 = own }) limits first))
+    → ((opened (record { 0 = own }) limits first).answer ≡ (Ok tt)) × ((opened_in own limits first d).1 ≡ record_bytes (opened_with (record { 0 = own }) limits first))
 unfolding opened_in opened
 opens own limits first d e = go (not (eqb (length d) record_length)) (values_ok O limits) e
   where
@@ -40,8 +41,8 @@ opens own limits first d e = go (not (eqb (length d) record_length)) (values_ok 
     w : List ℕ
     w = record_bytes (opened_with O limits first)
 
-    go : (t u : Bool) → (cond {A = ℕ × List ℕ} t (23, d) (acceptance_number (cond u Accepted (Refused OutOfBounds)), w)).0 ≡ 0
-        → (cond u Accepted (Refused OutOfBounds) ≡ Accepted) × ((cond {A = ℕ × List ℕ} t (23, d) (acceptance_number (cond u Accepted (Refused OutOfBounds)), w)).1 ≡ w)
+    go : (t u : Bool) → (cond {A = ℕ × List ℕ} t (23, d) (acceptance_number (cond u (Ok tt) (Err OutOfBounds)), w)).0 ≡ 0
+        → (◌≡◌ {A = Result ⊤ Refusal} (cond u (Ok tt) (Err OutOfBounds)) (Ok tt)) × ((cond {A = ℕ × List ℕ} t (23, d) (acceptance_number (cond u (Ok tt) (Err OutOfBounds)), w)).1 ≡ w)
     go true u e = absurd (omega arith)
     go false true e = (refl, refl)
     go false false e = absurd (omega arith)

@@ -1,5 +1,6 @@
 -- A record in bounds that is narrow fits, and every call on it leaves it narrow and answers what fits: by the four changes that a session
 -- makes, and the one application.
+use Rattle.std.specs.Prelude.{Err, None, Ok, Option, Result, Some, ℕ, is_some}
 use Prim.Native.Nat.{ℕ, zero, suc, ◌+◌, ◌<◌, ◌≤◌}
 use native.Mathlib.Omega.{arith}
 use mathlib.Core.Path.{◌≡◌, refl}
@@ -14,8 +15,7 @@ use Rattle.laws.specs.Choice.{each_of}
 use Rattle.frame.specs.declared.Address.{Address}
 use Rattle.frame.specs.declared.refusal.Refusal.{Refusal}
 use Rattle.frame.specs.declared.refusal.Refusal.TheVariants.{Silence, OutOfBounds, TransferLength}
-use Rattle.frame.specs.declared.judge.Verdict.{Verdict}
-use Rattle.frame.specs.declared.judge.Verdict.TheVariants as verdict
+use Rattle.frame.specs.declared.judge.Content.TheVariants as verdict
 use Rattle.frame.specs.declared.judge.Route.{Route}
 use Rattle.frame.specs.Judge.{judged}
 use Rattle.frame.specs.Octets.{low24}
@@ -26,7 +26,6 @@ use Rattle.transport.specs.declared.Kind.TheVariants.{Rts, Bam}
 use Rattle.transport.specs.declared.announcement.Announcement.{Announcement}
 use Rattle.transport.specs.declared.control.Control.TheVariants as control
 use Rattle.transport.specs.declared.segment.Segment.{Segment}
-use Rattle.transport.specs.declared.segment.DataFrame.TheVariants as dataframe
 use Rattle.transport.specs.Control.{not_receivers, control_of}
 use Rattle.transport.specs.Heads.{control_at, key_of}
 use Rattle.transport.specs.Announcements.{announcement_at}
@@ -34,11 +33,7 @@ use Rattle.transport.specs.Eoms.{status_at}
 use Rattle.transport.specs.Aborts.{role_at, abort_pgn_at}
 use Rattle.transport.specs.Segments.{segment_at, data_frame_of}
 use Rattle.answer.specs.declared.Answer.{Answer}
-use Rattle.answer.specs.declared.Acceptance.TheVariants as acceptance
-use Rattle.answer.specs.declared.End.TheVariants as end
 use Rattle.session.specs.declared.Session.{Session}
-use Rattle.session.specs.declared.State.{State}
-use Rattle.session.specs.declared.State.TheVariants.{Closed, Open}
 use Rattle.session.specs.declared.Change.{Change}
 use Rattle.session.specs.declared.Change.TheVariants.{Stays, Opens, Moves, Ends}
 use Rattle.session.specs.declared.Step.{Step}
@@ -47,11 +42,8 @@ use Rattle.session.specs.Bounds.{state_ok}
 use Rattle.session.specs.InBounds.{Sound, sound_of}
 use Rattle.session.specs.Fits.{StateSmall, ChangeFits, AnswerFits, StepFits, segment_fits, status_fits, abort_fits}
 use Rattle.session.proofs.Fits.{announce_fits}
-use Rattle.slots.specs.declared.Slot.{Slot}
-use Rattle.slots.specs.declared.Found.{Found}
-use Rattle.slots.specs.declared.Found.TheVariants.{At, Nothing}
-use Rattle.slots.specs.Slots.{Within, slot_for, state_in, is_at, free_slot}
-use Rattle.slots.specs.Bounds.{values_ok, slot_ok, twin_of, slots_ok}
+use Rattle.slots.specs.Slots.{Within, slot_for, state_in, free_slot}
+use Rattle.slots.specs.Bounds.{values_ok, twin_of, slots_ok}
 use Rattle.receiver.specs.declared.Receiver.{Receiver}
 use Rattle.receiver.specs.Bounds.{in_bounds}
 use Rattle.receiver.specs.Calls.{Outcome, Stepped, Elapsed, refused, with_slot, applied, apply, slot_of, announce_step, status_step, abort_step, on_control, control_step, segment_step, on_data, is_ready, groups_step, on_verdict, frame_all, after_end, expired, stays, reading_kept, reading_step}
@@ -60,24 +52,26 @@ use Rattle.record_bytes.specs.RoundTrip.{SlotsFit, RecordFits}
 use Rattle.dwaebinam.specs.Handed.{for_within}
 use Rattle.isolation.proofs.Opening.{allowed}
 use Rattle.carried.specs.Fitting.{StateNarrow, SlotsNarrow, Narrow}
+use Rattle.frame.specs.declared.judge.Content.{Content}
+use Rattle.progress.specs.declared.Progress.{Progress}
 
 -- ---- what fits
 
-state_fits : (own : Address) (x : State) → state_ok own x ≡ true → StateNarrow x → StateSmall x
-state_fits own Closed e h = tt
-state_fits own (Open s) e h =
+state_fits : (own : Address) (x : Option Session) → state_ok own x ≡ true → StateNarrow x → StateSmall x
+state_fits own None e h = tt
+state_fits own (Some s) e h =
     let ok : Sound own s = sound_of own s e in
     let p : s.announced.pgn < 262144 = ltb-true s.announced.pgn 262144 (and_elim_left (ltb s.announced.pgn 262144) (low_byte_ok s.announced.pgn) ok.agreed.form) in
     let t : s.announced.total.0 ≤ 4096 = ok.agreed.fits in
     let c : s.announced.segments.0 ≤ 4155 = (let z = ok.agreed.count in omega arith) in
     record { total = omega arith; segments = omega arith; pgn = omega arith; progress = h }
 
-slots_fit : (own : Address) (l : List Slot) → slots_ok own l ≡ true → SlotsNarrow l → SlotsFit l
+slots_fit : (own : Address) (l : List (Option Session)) → slots_ok own l ≡ true → SlotsNarrow l → SlotsFit l
 unfolding slots_ok
 slots_fit own [] e h = tt
 slots_fit own (s ∷ ss) e (h, hs) =
-    let p = each_of (slot_ok own s ∷ not (twin_of s ss) ∷ slots_ok own ss ∷ []) e in (
-      state_fits own s.state p.0 h,
+    let p = each_of (state_ok own s ∷ not (twin_of s ss) ∷ slots_ok own ss ∷ []) e in (
+      state_fits own s p.0 h,
       slots_fit own ss p.1.1.0 hs,
     )
 
@@ -98,27 +92,27 @@ record_fits r e eight h =
 
 -- ---- slots
 
-narrow_set : (l : List Slot) (i : ℕ) (s : Slot) → SlotsNarrow l → StateNarrow s.state → SlotsNarrow (set l i s)
+narrow_set : (l : List (Option Session)) (i : ℕ) (s : Option Session) → SlotsNarrow l → StateNarrow s → SlotsNarrow (set l i s)
 narrow_set [] i s h g = tt
 narrow_set (x ∷ l) zero s (h, hs) g = (g, hs)
 narrow_set (x ∷ l) (suc i) s (h, hs) g = (h, narrow_set l i s hs g)
 
-pub fits_at : (l : List Slot) (i : ℕ) → SlotsFit l → StateSmall (get_or l i free_slot).state
+pub fits_at : (l : List (Option Session)) (i : ℕ) → SlotsFit l → StateSmall (get_or l i free_slot)
 fits_at [] i h = tt
 fits_at (x ∷ l) zero (h, hs) = h
 fits_at (x ∷ l) (suc i) (h, hs) = fits_at l i hs
 
-narrow_expired : (limits : IdleLimits) (t : ℕ) (l : List Slot) → SlotsNarrow l → SlotsNarrow (map (expired limits t) l)
+narrow_expired : (limits : IdleLimits) (t : ℕ) (l : List (Option Session)) → SlotsNarrow l → SlotsNarrow (map (expired limits t) l)
 narrow_expired limits t [] h = tt
-narrow_expired limits t (x ∷ l) (h, hs) = (go x.state h, narrow_expired limits t l hs)
+narrow_expired limits t (x ∷ l) (h, hs) = (go x h, narrow_expired limits t l hs)
   where
-    by : (s : Session) → StateNarrow (Open s) → (b : Bool) → StateNarrow (after_end (cond b (end.Ended (ending_of s Silence)) end.Stays) (Open s))
+    by : (s : Session) → StateNarrow (Some s) → (b : Bool) → StateNarrow (after_end (cond b (Some (ending_of s Silence)) None) (Some s))
     by s h true = tt
     by s h false = h
 
-    go : (st : State) → StateNarrow st → StateNarrow (expired limits t (record { state = st })).state
-    go Closed h = tt
-    go (Open s) h = by s h (is_silent limits t s)
+    go : (st : Option Session) → StateNarrow st → StateNarrow (expired limits t st)
+    go None h = tt
+    go (Some s) h = by s h (is_silent limits t s)
 
 -- ---- a step applied to its slot
 
@@ -139,53 +133,53 @@ pub record Well (x : Stepped) : Type 0 where
   pub answer : AnswerFits x.answer
 
 module _ (r : Receiver) (h : Narrow r) (f : RecordFits r) where
-  after_narrow : (x : State) (c : Change) → StateNarrow x → ChangeFits c → StateNarrow (after x c)
+  after_narrow : (x : Option Session) (c : Change Session Progress) → StateNarrow x → ChangeFits c → StateNarrow (after x c)
   after_narrow x Stays n g = n
   after_narrow x (Opens s) n g = g
-  after_narrow Closed (Moves p) n g = tt
-  after_narrow (Open s) (Moves p) n g = g
+  after_narrow None (Moves p) n g = tt
+  after_narrow (Some s) (Moves p) n g = g
   after_narrow x Ends n g = tt
 
-  narrow_at : (l : List Slot) (i : ℕ) → SlotsNarrow l → StateNarrow (get_or l i free_slot).state
+  narrow_at : (l : List (Option Session)) (i : ℕ) → SlotsNarrow l → StateNarrow (get_or l i free_slot)
   narrow_at [] i n = tt
   narrow_at (x ∷ l) zero (n, ns) = n
   narrow_at (x ∷ l) (suc i) (n, ns) = narrow_at l i ns
 
-  put : (i : ℕ) (c : Change) → ChangeFits c → Narrow (with_slot r i (after (get_or r.slots i free_slot).state c))
+  put : (i : ℕ) (c : Change Session Progress) → ChangeFits c → Narrow (with_slot r i (after (get_or r.slots i free_slot) c))
   put i c g = record {
     last = h.last;
-    slots = narrow_set r.slots i (record { state = after (get_or r.slots i free_slot).state c }) h.slots
-        (after_narrow (get_or r.slots i free_slot).state c (narrow_at r.slots i h.slots) g);
+    slots = narrow_set r.slots i (after (get_or r.slots i free_slot) c) h.slots
+        (after_narrow (get_or r.slots i free_slot) c (narrow_at r.slots i h.slots) g);
   }
 
-  applied_narrow : (i : ℕ) (c : Change) → ChangeFits c → Narrow (applied r i c)
+  applied_narrow : (i : ℕ) (c : Change Session Progress) → ChangeFits c → Narrow (applied r i c)
   applied_narrow i Stays g = h
   applied_narrow i (Opens s) g = put i (Opens s) g
   applied_narrow i (Moves p) g = put i (Moves p) g
   applied_narrow i Ends g = put i Ends g
 
-  well : (g : Found) (st : Step) → StepFits st → Well (apply r g st)
-  well (At i) st s = record { narrow = applied_narrow i st.change s.change; answer = s.answer }
-  well Nothing st s = record { narrow = h; answer = s.answer }
+  well : (g : Option ℕ) (st : Step) → StepFits st → Well (apply r g st)
+  well (Some i) st s = record { narrow = applied_narrow i st.change s.change; answer = s.answer }
+  well None st s = record { narrow = h; answer = s.answer }
 
   refused_well : (n : Refusal) → Well (refused r n)
   refused_well n = record { narrow = h; answer = tt }
 
   -- ---- a frame, by the slot for its key
 
-  state_small : (g : Found) → StateSmall (state_in g r.slots)
-  state_small Nothing = tt
-  state_small (At i) = fits_at r.slots i f.slots
+  state_small : (g : Option ℕ) → StateSmall (state_in g r.slots)
+  state_small None = tt
+  state_small (Some i) = fits_at r.slots i f.slots
 
-  slot_small : (g : Found) → Within g 8 → slot_of g < 256
-  slot_small Nothing w = omega arith
-  slot_small (At i) w = omega arith
+  slot_small : (g : Option ℕ) → Within g 8 → slot_of g < 256
+  slot_small None w = omega arith
+  slot_small (Some i) w = omega arith
 
   announces : (k : Key) (a : Announcement) → a.pgn < 4294967296 → a.segments.0 < 4294967296 → Well (announce_step r k a)
   unfolding announce_step
   announces k a p g' =
-      let g : Found = slot_for k r.slots in
-      well g (announced_to (state_in g r.slots) (is_at g) k a r.last) (announce_fits k a r.last p g' h.last (state_in g r.slots) (is_at g))
+      let g : Option ℕ = slot_for k r.slots in
+      well g (announced_to (state_in g r.slots) (is_some g) k a r.last) (announce_fits k a r.last p g' h.last (state_in g r.slots) (is_some g))
 
   controls : (route : Route) (d : List ℕ) → Bytes d → Well (control_step r route d)
   unfolding control_step control_of status_step abort_step
@@ -194,14 +188,14 @@ module _ (r : Receiver) (h : Narrow r) (f : RecordFits r) where
       K : Key
       K = key_of route d
 
-      G : Found
+      G : Option ℕ
       G = slot_for (key_of route d) r.slots
 
       go : (t u v w x : Bool)
-          → Well (on_control (cond t (control.Refused TransferLength)
-          (cond u (control.Announce (announcement_at Rts d))
-          (cond v (control.Announce (announcement_at Bam d))
-          (cond w (control.EndOfMessage (status_at d)) (cond x (control.Abort (abort_pgn_at d)) (control.Refused (not_receivers d))))))) r (key_of route d))
+          → Well (on_control (cond t (Err TransferLength)
+          (cond u (Ok (control.Announce (announcement_at Rts d)))
+          (cond v (Ok (control.Announce (announcement_at Bam d)))
+          (cond w (Ok (control.EndOfMessage (status_at d))) (cond x (Ok (control.Abort (abort_pgn_at d))) (Err (not_receivers d))))))) r (key_of route d))
       go true u v w x = refused_well TransferLength
       go false true v w x = announces K (announcement_at Rts d) (small_of (low24 d 9) (low24_small d b 9)) (small_of (low24 d 4) (low24_small d b 4))
       go false false true w x = announces K (announcement_at Bam d) (small_of (low24 d 9) (low24_small d b 9)) (small_of (low24 d 4) (low24_small d b 4))
@@ -214,7 +208,7 @@ module _ (r : Receiver) (h : Narrow r) (f : RecordFits r) where
   segments : (k : Key) (sg : Segment) (d m : List ℕ) → sg.number.0 < 16777216 → Well (segment_step r k sg d m).0
   unfolding segment_step
   segments k sg d m few =
-      let g : Found = slot_for k r.slots in
+      let g : Option ℕ = slot_for k r.slots in
       well g (segment_to (state_in g r.slots) sg r.last) (segment_fits (state_in g r.slots) sg r.last (state_small g) few h.last)
 
   pub frame_well : (id : ℕ) (d m : List ℕ) → Bytes d → Well (frame_all r id d m).0
@@ -225,16 +219,16 @@ module _ (r : Receiver) (h : Narrow r) (f : RecordFits r) where
       groups (good gs) route = record { narrow = h; answer = tt }
       groups (bad n) route = refused_well n
 
-      datas : (t : Bool) (route : Route) → Well (on_data (cond t (dataframe.Refused TransferLength) (dataframe.Segment (segment_at d))) r (key_of route d) d m).0
+      datas : (t : Bool) (route : Route) → Well (on_data (cond t (Err TransferLength) (Ok (segment_at d))) r (key_of route d) d m).0
       datas true route = refused_well TransferLength
       datas false route = segments (key_of route d) (segment_at d) d m (low24_small d b 1)
 
-      go : (t : Bool) (v : Verdict) → Well (cond t (on_verdict v r d m) (refused r OutOfBounds, m)).0
+      go : (t : Bool) (v : Result Content Refusal) → Well (cond t (on_verdict v r d m) (refused r OutOfBounds, m)).0
       go false v = refused_well OutOfBounds
-      go true (verdict.MultiPg route) = groups (groups_read d) route
-      go true (verdict.Control route) = controls route d b
-      go true (verdict.Data route) = datas (ltb (length d) 5) route
-      go true (verdict.Refused n) = refused_well n
+      go true (Ok (verdict.MultiPg route)) = groups (groups_read d) route
+      go true (Ok (verdict.Control route)) = controls route d b
+      go true (Ok (verdict.Data route)) = datas (ltb (length d) 5) route
+      go true (Err n) = refused_well n
 
   -- ---- a reading
 
@@ -242,7 +236,7 @@ module _ (r : Receiver) (h : Narrow r) (f : RecordFits r) where
   unfolding reading_step
   reading_narrow t m e = go (is_ready r m)
     where
-      go : (b : Bool) → let x : Elapsed = cond b (reading_kept r t) (record { next = r; answer = acceptance.Refused OutOfBounds; ends = replicate 8 stays }) in
+      go : (b : Bool) → let x : Elapsed = cond b (reading_kept r t) (record { next = r; answer = Err OutOfBounds; ends = replicate 8 stays }) in
           Narrow x.next
       go true = record { last = e; slots = narrow_expired r.limits t r.slots h.slots }
       go false = h

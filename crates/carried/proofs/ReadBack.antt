@@ -1,9 +1,9 @@
 -- An answer whose numbers have their places is read off its bytes as it was, but for the route of a Multi-PG frame.
+use Rattle.std.specs.Prelude.{None, Option, Some}
 use Prim.Native.Nat.{ℕ, ◌%◌, ◌<◌}
 use native.Mathlib.Omega.{arith}
 use mathlib.Core.Path.{◌≡◌, refl, ap, ap₂, ◌∙◌}
 use mathlib.Core.Bool.{cond}
-use mathlib.Core.Option.{Option, none, some}
 use mathlib.Core.List.{List, [], ◌∷◌, ◌++◌}
 use lib.ListN.{length, get_or}
 use lib.Seq.{take_at, drop_at}
@@ -16,15 +16,12 @@ use Rattle.transport.specs.declared.Kind.TheVariants.{Rts, Bam}
 use Rattle.answer.specs.declared.Ending.{Ending}
 use Rattle.answer.specs.declared.Answer.{Answer}
 use Rattle.answer.specs.declared.Answer.TheVariants.{Groups, Opened, Taken, Grant, HandedOver, Aborted, Ended, RefusedRts, Refused}
-use Rattle.answer.specs.declared.End.{End}
-use Rattle.answer.specs.declared.End.TheVariants as end
-use Rattle.answer.specs.declared.SlotEnd.{SlotEnd}
 use Rattle.session.specs.Fits.{AnswerFits}
 use Rattle.record_bytes.specs.Layout.{kind_byte, kind_at}
 use Rattle.words.specs.Laws.{four_bytes, low32_read_back}
 use Rattle.transport.specs.declared.response.Response.{Response}
 use Rattle.transport.specs.Responses.{response_bytes, response_id}
-use Rattle.answer.specs.Answers.{answer_number, answer_sends, sending_of, end_sends, wire_of}
+use Rattle.answer.specs.Answers.{answer_number, answer_sends, end_sends, wire_of}
 use Rattle.answer_bytes.specs.Places.{answer_length, number_place}
 use Rattle.answer_bytes.specs.declared.Fields.{Fields}
 use Rattle.answer_bytes.specs.Answers.{fields_of, fields_bytes, sent_bytes, answer_bytes}
@@ -81,14 +78,14 @@ answer_back (Refused n) f = ap Refused (refusal_back n)
 
 -- its identifier has its place in four bytes
 abbrev pub WireFits : Option Wire → Type 0
-WireFits none = Unit {0}
-WireFits (some w) = w.0 < 4294967296
+WireFits None = Unit {0}
+WireFits (Some w) = w.0 < 4294967296
 
 -- whatever fields are before it
-sent_back : (f : Fields) (s : Option Response) → WireFits (wire_of s) → wire_at (fields_bytes f ++ sent_bytes (sending_of s)) ≡ wire_of s
+sent_back : (f : Fields) (s : Option Response) → WireFits (wire_of s) → wire_at (fields_bytes f ++ sent_bytes (s)) ≡ wire_of s
 unfolding fields_bytes
-sent_back f none g = refl
-sent_back f (some x) g = ap (λ (n : ℕ). some (n, response_bytes x)) (low32_read_back (response_id x) g)
+sent_back f None g = refl
+sent_back f (Some x) g = ap (λ (n : ℕ). Some (n, response_bytes x)) (low32_read_back (response_id x) g)
 
 pub wire_back : (a : Answer) → WireFits (wire_of (answer_sends a)) → wire_at (answer_bytes a) ≡ wire_of (answer_sends a)
 wire_back a g = sent_back (fields_of a) (answer_sends a) g
@@ -126,27 +123,27 @@ reply_back a m f g =
 
 -- ---- a reading
 
-abbrev pub EndFits : End → Type 0
-EndFits end.Stays = Unit {0}
-EndFits (end.Ended e) = (e.pgn < 4294967296) × WireFits (wire_of (end_sends (end.Ended e)))
+abbrev pub EndFits : Option Ending → Type 0
+EndFits None = Unit {0}
+EndFits (Some e) = (e.pgn < 4294967296) × WireFits (wire_of (end_sends (Some e)))
 
-abbrev pub EndsFit : List SlotEnd → Type 0
+abbrev pub EndsFit : List (Option Ending) → Type 0
 EndsFit [] = Unit {0}
-EndsFit (e ∷ es) = EndFits e.end × EndsFit es
+EndsFit (e ∷ es) = EndFits e × EndsFit es
 
 -- an ending and the frame that it sends
-end_back : (k : ℕ) (e : End) → EndFits e → ending_at k (end_bytes e) ≡ ending_of k e
+end_back : (k : ℕ) (e : Option Ending) → EndFits e → ending_at k (end_bytes e) ≡ ending_of k e
 unfolding fields_bytes ending_of end_reply
-end_back k end.Stays f = refl
-end_back k (end.Ended e) (f, g) =
+end_back k None f = refl
+end_back k (Some e) (f, g) =
     ap (λ (y : Reply). cond (is_key k e.key) (y ∷ []) [])
     (ap₂ (λ (a : Kind) (p : ℕ). record { number = number_of e.refusal; says = ended e.key a p; sends = wire_at (answer_bytes (Ended e)) }) (kind_back e.kind) (low32_read_back e.pgn f)
     ∙ ap (λ (w : Option Wire). record { number = number_of e.refusal; says = ended e.key e.kind e.pgn; sends = w }) (wire_back (Ended e) g))
 
-pub ends_back : (k : ℕ) (es : List SlotEnd) → EndsFit es → endings_at k (length es) (ends_bytes es) ≡ endings_of k es
+pub ends_back : (k : ℕ) (es : List (Option Ending)) → EndsFit es → endings_at k (length es) (ends_bytes es) ≡ endings_of k es
 unfolding ends_by endings_of
 ends_back k [] f = refl
 ends_back k (e ∷ es) (f, fs) =
-    let b : List ℕ = end_bytes e.end in
-    ap₂ (λ (x y : List ℕ). ending_at k x ++ endings_at k (length es) y) (take_at b (ends_bytes es) answer_length (length_end e.end)) (drop_at b (ends_bytes es) answer_length (length_end e.end))
-    ∙ ap₂ (λ (x y : List Reply). x ++ y) (end_back k e.end f) (ends_back k es fs)
+    let b : List ℕ = end_bytes e in
+    ap₂ (λ (x y : List ℕ). ending_at k x ++ endings_at k (length es) y) (take_at b (ends_bytes es) answer_length (length_end e)) (drop_at b (ends_bytes es) answer_length (length_end e))
+    ∙ ap₂ (λ (x y : List Reply). x ++ y) (end_back k e f) (ends_back k es fs)

@@ -1,9 +1,9 @@
 -- The identifier of every frame that is sent has its place in four bytes: the addresses in it are those of a key.
+use Rattle.std.specs.Prelude.{None, Option, Some}
 use Prim.Native.Nat.{ℕ, ◌<◌, ◌≤◌}
 use native.Mathlib.Omega.{arith}
 use mathlib.Core.Path.{◌≡◌, refl, sym, ap, subst}
 use mathlib.Core.Bool.{Bool, true, false, cond, not, ◌||◌}
-use mathlib.Core.Option.{Option, none, some}
 use mathlib.Core.List.{List, [], ◌∷◌}
 use lib.Dec.{eqb, leb, ltb}
 use lib.ListN.{length}
@@ -120,16 +120,16 @@ module _ (k : ℕ) (low : k < 1048576) where
   rule_fits v last eight x (segment format n d) = sends_if (not (eqb format 0)) _ _ tt (go x)
     where
       go : (x : Option Open) → Sends (if_open x (λ ρ. segment_open k last ρ n d)).1
-      go none = tt
-      go (some ρ) = segment_fits last ρ n d
-  rule_fits v last eight none (status s) = tt
-  rule_fits v last eight (some ρ) (status s) =
+      go None = tt
+      go (Some ρ) = segment_fits last ρ n d
+  rule_fits v last eight None (status s) = tt
+  rule_fits v last eight (Some ρ) (status s) =
       sends_if (not (as_announced ρ s)) _ _ (ending_fits ρ.told _)
       (sends_if (eqb (length ρ.pieces) ρ.told.segments.0) _ _ (hand_fits ρ.told _)
       (sends_if (not (own-frames.is_rts ρ.told.kind)) _ _ (ending_fits ρ.told _)
       (sends_if (ltb ρ.requests 5) _ _ (cts_fits _ _ _) (ending_fits ρ.told _))))
-  rule_fits v last eight none (abort pgn) = tt
-  rule_fits v last eight (some ρ) (abort pgn) = sends_if (eqb pgn ρ.told.pgn) _ _ tt tt
+  rule_fits v last eight None (abort pgn) = tt
+  rule_fits v last eight (Some ρ) (abort pgn) = sends_if (eqb pgn ρ.told.pgn) _ _ tt tt
 
 -- ---- a frame
 
@@ -148,13 +148,13 @@ frame_sends r id d m eight = go (is_ready r m) refl
     o : Outcome
     o = on_verdict (judged r.own id (length d)) r d m
 
-    nothing : (a : Answer) → answer_sends a ≡ none → WireFits (wire_of (answer_sends a))
+    nothing : (a : Answer) → answer_sends a ≡ None → WireFits (wire_of (answer_sends a))
     nothing a e = rw e tt
 
     read : is_ready r m ≡ true → (b : Option Body) → body_of r.own id d ≡ b → Takes r d m (key_at (frame_key id d)) o b → WireFits (wire_of (answer_sends o.0.answer))
-    read e none body f =
+    read e None body f =
         nothing o.0.answer (plain_sends o.0.answer (subst (λ (z : Outcome). Plain z.0.answer) (sym f.same) f.plain))
-    read e (some b) body t =
+    read e (Some b) body t =
         let sim : Sim (values_of r) r m (stands_for r m) = bounds_sim r m (and_elim_right (eqb (length m) 32768) (in_bounds r) e) eight
         (eqb-true (length m) 32768 (and_elim_left (eqb (length m) 32768) (in_bounds r) e)) in
         let fit = body_fit (values_of r) r m (stands_for r m) sim (frame_key id d) (frame_mine (values_of r) id d b (own_small r.own r.limits sim.good) body) b d t.1 in

@@ -1,4 +1,5 @@
 -- One call over lent bytes is the receiver's own call on the record that the bytes hold.
+use Rattle.std.specs.Prelude.{Err}
 use Prim.Native.Nat.{ℕ}
 use mathlib.Core.Path.{◌≡◌, refl, sym, ap, subst}
 use mathlib.Core.Bool.{Bool, true, false, cond, not, ◌&&◌}
@@ -13,7 +14,6 @@ use Rattle.receiver.specs.declared.Receiver.{Receiver}
 use Rattle.answer.specs.declared.Answer.TheVariants.{Refused}
 use Rattle.receiver.specs.Calls.{Elapsed}
 use Rattle.receiver.specs.Bounds.{in_bounds}
-use Rattle.answer.specs.declared.Acceptance.TheVariants as acceptance
 use Rattle.receiver.specs.Calls.{Outcome, refused, is_ready, on_verdict, frame_all, stays, reading_kept, reading_step}
 use Rattle.record_bytes.specs.Layout.{is_record, record_at}
 use Rattle.record_bytes.specs.Keeping.{put_in}
@@ -83,10 +83,10 @@ module _ (b : List ℕ) (is : is_record b ≡ true) where
       r = record_at b
 
       none : ReadingAnswer
-      none = record { answer = acceptance.Refused OutOfBounds; ends = replicate 8 stays }
+      none = record { answer = Err OutOfBounds; ends = replicate 8 stays }
 
       by : Bool → Elapsed
-      by u = cond u (reading_kept r t) (record { next = r; answer = acceptance.Refused OutOfBounds; ends = replicate 8 stays })
+      by u = cond u (reading_kept r t) (record { next = r; answer = Err OutOfBounds; ends = replicate 8 stays })
 
       go : (u : Bool) → RecordFits (by u).next → Reads (read_by (cond u (elapsed_in b (by u)) (none, b))) (by u)
       go true f = record { number = refl; answers = refl; next = put_holds (reading_kept r t).next f }

@@ -1,6 +1,5 @@
 -- Answers read off the bytes that a call gives: what a program in C can take from them.
-use Rattle.std.specs.Prelude.{ℕ, cond, List, eqb, get_or, drop}
-use Rattle.std.proofs.Math.Option.{Option, none, some}
+use Rattle.std.specs.Prelude.{ℕ, cond, List, eqb, get_or, drop, None, Option, Some}
 use Rattle.frame.specs.Numbers.{refusal_at}
 use Rattle.frame.specs.declared.judge.Route.{Route}
 use Rattle.transport.specs.declared.Key.{Key}
@@ -61,4 +60,4 @@ answer_at p = answer_by (get_or p code_place 0) p
 -- ---- the frame sent, off its own bytes: 1 where there is one, its identifier, its 12 bytes
 
 abbrev pub wire_at : List ℕ → Option Wire
-wire_at p = cond (eqb (get_or p sent_place 0) 1) (some (low32 p identifier_place, drop data_place p)) none
+wire_at p = cond (eqb (get_or p sent_place 0) 1) (Some (low32 p identifier_place, drop data_place p)) None

@@ -1,7 +1,7 @@
 -- A count for each address of how often it occurs: 02, E7. The addresses are the SAs of the open sessions; cs has the counts, that of
 -- address 0 first.
 use Rattle.std.specs.Prelude.{ℕ, zero, suc, ◌+◌, ◌≤◌, ◌<◌, ◌≡◌, refl, Bool, true, false, cond, ◌&&◌, List, [], ◌∷◌, ◌++◌, eqb, length, get_or}
-use Rattle.std.proofs.Common.{sym, ap, ap₂, ◌∙◌, arith, eqb-true, eq-eqb}
+use Rattle.std.proofs.Common.{ap, ap₂, ◌∙◌, arith, eqb-true, eq-eqb}
 use mathlib.Mathlib.Data.Bool.Basic.{and_elim_left, and_elim_right}
 
 unfoldable pub sum_of : List ℕ → ℕ

@@ -4,28 +4,11 @@
 ghost use Rattle.std.specs.Prelude.{◌≡◌, ◌≤◌, length};
 ghost use Rattle.counts.specs.Counts.{sum_of};
 
-fn wide(x: u8) -> u16
-    ensures { result ≡ x }
-{
-    x as u16
-}
-
-fn wider(x: u16) -> u32
-    ensures { result ≡ x }
-{
-    x as u32
-}
-
 // The sum of the counts. It is kept in 16 bits, which 256 bytes cannot pass, so that a vector holds more of them.
 pub fn sum(counts: &[u8]) -> u32
     requires { length counts.now ≤ 256 }
     ensures { result ≡ sum_of counts.now }
 {
-    let mut total: u16 = 0;
-    let mut i: usize = 0;
-    while i < counts.len() {
-        total += wide(counts[i]);
-        i += 1;
-    }
-    wider(total)
+    let total: u16 = counts.iter().map(|count| u16::from(*count)).sum();
+    u32::from(total)
 }

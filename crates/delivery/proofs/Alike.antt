@@ -1,18 +1,14 @@
 -- Two worlds of rules that explain one record and one store have the same session of a key, but for the order in which data was taken; and
 -- what Losses says of a session does not depend on that.
+use Rattle.std.specs.Prelude.{None, Option, Some, ℕ}
 use Prim.Native.Nat.{ℕ, zero, suc, ◌≤◌}
 use mathlib.Core.Path.{◌≡◌, refl, sym, ap, ◌∙◌}
 use mathlib.Core.Bool.{true}
-use mathlib.Core.Option.{Option, none, some}
 use mathlib.Core.List.{List, [], ◌∷◌}
 use native.Mathlib.Omega.{arith}
 use lib.ListN.{length}
 use Rattle.session.specs.declared.Session.{Session}
-use Rattle.session.specs.declared.State.{State}
-use Rattle.session.specs.declared.State.TheVariants as is
 use Rattle.session.specs.Segments.{already_in}
-use Rattle.slots.specs.declared.Found.{Found}
-use Rattle.slots.specs.declared.Found.TheVariants.{At, Nothing}
 use Rattle.slots.specs.Slots.{key_place}
 use Rattle.receiver.specs.declared.Receiver.{Receiver}
 use Rattle.isolation.specs.OwnFrames.{key_at, Body, announce, segment, status, abort}
@@ -34,10 +30,10 @@ pub record AlikeOpen (ρ σ : Open) : Type 0 where
   pub taken : length ρ.pieces ≡ length σ.pieces
 
 abbrev pub Alike : Option Open → Option Open → Type 0
-Alike none none = Unit {0}
-Alike none (some σ) = ⊥
-Alike (some ρ) none = ⊥
-Alike (some ρ) (some σ) = AlikeOpen ρ σ
+Alike None None = Unit {0}
+Alike None (Some σ) = ⊥
+Alike (Some ρ) None = ⊥
+Alike (Some ρ) (Some σ) = AlikeOpen ρ σ
 
 -- ---- by the slot
 
@@ -59,45 +55,45 @@ module _ (v : Values) (k : ℕ) (p : List ℕ) where
         ∙ in_length σ.told.total.0 σ.told.segments.0 p σ.pieces b.pieces;
   }
 
-  ses_alike : (st : State) (x y : Option Open) → Ses v k st p x → Ses v k st p y → Alike x y
-  ses_alike is.Closed none none a b = tt
-  ses_alike is.Closed none (some σ) a b = b
-  ses_alike is.Closed (some ρ) y a b = absurd a
-  ses_alike (is.Open s) none y a b = absurd a
-  ses_alike (is.Open s) (some ρ) none a b = b
-  ses_alike (is.Open s) (some ρ) (some σ) (x, e, f) (z, g, h) = open_alike ρ σ x z (sym e ∙ g) f h
+  ses_alike : (st : Option Session) (x y : Option Open) → Ses v k st p x → Ses v k st p y → Alike x y
+  ses_alike None None None a b = tt
+  ses_alike None None (Some σ) a b = b
+  ses_alike None (Some ρ) y a b = absurd a
+  ses_alike (Some s) None y a b = absurd a
+  ses_alike (Some s) (Some ρ) None a b = b
+  ses_alike (Some s) (Some ρ) (Some σ) (x, e, f) (z, g, h) = open_alike ρ σ x z (sym e ∙ g) f h
 
 pub alike : (v : Values) (r : Receiver) (m : List ℕ) (w w' : World) → Sim v r m w → Sim v r m w' → (k : ℕ) → Alike (w k).session (w' k).session
 alike v r m w w' a b k = go (key_place (key_at k) r.slots) refl
   where
-    go : (f : Found) → key_place (key_at k) r.slots ≡ f → Alike (w k).session (w' k).session
-    go Nothing e = rw (a.shut k (find_none k r.slots e), b.shut k (find_none k r.slots e)) tt
-    go (At i) e =
+    go : (f : Option ℕ) → key_place (key_at k) r.slots ≡ f → Alike (w k).session (w' k).session
+    go None e = rw (a.shut k (find_none k r.slots e), b.shut k (find_none k r.slots e)) tt
+    go (Some i) e =
         let h : holds k (at r.slots i) ≡ true = (find_some k r.slots i e).0 in
         ses_alike v k (part i m) (at r.slots i) (w k).session (w' k).session (a.held i k h) (b.held i k h)
 
 -- ---- what Losses says
 
-pub alike_none : (x y : Option Open) → Alike x y → x ≡ none → y ≡ none
-alike_none none none a e = refl
-alike_none none (some σ) a e = absurd a
-alike_none (some ρ) y a e = absurd (let z : ◌≡◌ {A = ℕ} 0 1 = cc in omega arith)
+pub alike_none : (x y : Option Open) → Alike x y → x ≡ None → y ≡ None
+alike_none None None a e = refl
+alike_none None (Some σ) a e = absurd a
+alike_none (Some ρ) y a e = absurd (let z : ◌≡◌ {A = ℕ} 0 1 = cc in omega arith)
 
 module _ (s : Setting) where
   alike_needed : (x y : Option Open) → Alike x y → (n : ℕ) → is_needed s x n ≡ is_needed s y n
   unfolding is_needed
-  alike_needed none none a n = refl
-  alike_needed none (some σ) a n = absurd a
-  alike_needed (some ρ) none a n = absurd a
-  alike_needed (some ρ) (some σ) a n = rw (a.kind, a.granted, a.requests)
+  alike_needed None None a n = refl
+  alike_needed None (Some σ) a n = absurd a
+  alike_needed (Some ρ) None a n = absurd a
+  alike_needed (Some ρ) (Some σ) a n = rw (a.kind, a.granted, a.requests)
 
   alike_lose : (x y : Option Open) → Alike x y → (b : Option Body) → may_lose s x b ≡ may_lose s y b
   unfolding may_lose
-  alike_lose x y a none = refl
-  alike_lose x y a (some (announce t)) = refl
-  alike_lose x y a (some (segment format n d)) = rw (alike_needed x y a n)
-  alike_lose x y a (some (status st)) = refl
-  alike_lose x y a (some (abort pgn)) = refl
+  alike_lose x y a None = refl
+  alike_lose x y a (Some (announce t)) = refl
+  alike_lose x y a (Some (segment format n d)) = rw (alike_needed x y a n)
+  alike_lose x y a (Some (status st)) = refl
+  alike_lose x y a (Some (abort pgn)) = refl
 
   pub alike_loses : (x y : Option Open) → Alike x y → (fs : List Wire) → MayLoseOldest s y fs → MayLoseOldest s x fs
   alike_loses x y a [] h = h
@@ -105,12 +101,12 @@ module _ (s : Setting) where
 
   pub alike_answer : (x y : Option Open) → Alike x y → to_answer s x ≡ to_answer s y
   unfolding to_answer
-  alike_answer none none a = refl
-  alike_answer none (some σ) a = absurd a
-  alike_answer (some ρ) none a = absurd a
-  alike_answer (some ρ) (some σ) a = rw (a.kind, a.granted, a.requests)
+  alike_answer None None a = refl
+  alike_answer None (Some σ) a = absurd a
+  alike_answer (Some ρ) None a = absurd a
+  alike_answer (Some ρ) (Some σ) a = rw (a.kind, a.granted, a.requests)
 
   pub alike_spent : (x y : Option Open) → Alike x y → Spent s x → Spent s y
-  alike_spent none y a h = absurd h
-  alike_spent (some ρ) none a h = absurd a
-  alike_spent (some ρ) (some σ) a (few, short) = (sym a.requests ∙ few, let e = a.taken in omega arith)
+  alike_spent None y a h = absurd h
+  alike_spent (Some ρ) None a h = absurd a
+  alike_spent (Some ρ) (Some σ) a (few, short) = (sym a.requests ∙ few, let e = a.taken in omega arith)

@@ -1,4 +1,5 @@
 -- A message arrives: the theorem.
+use Rattle.std.specs.Prelude.{Option}
 use Prim.Native.Nat.{ℕ, zero, suc, ◌+◌, ◌/◌, ◌%◌, ◌≤◌, ◌<◌}
 use mathlib.Core.Path.{◌≡◌, refl, sym, ap, ◌∙◌, subst}
 use mathlib.Core.Logic.{◌⊎◌, inl, inr}
@@ -10,7 +11,6 @@ use Rattle.progress.specs.declared.wait.Wait.TheVariants.{First}
 use Rattle.laws.specs.Bools.{by_test}
 use Rattle.transport.specs.declared.Kind.{Kind}
 use Rattle.transport.specs.declared.Kind.TheVariants.{Rts, Bam}
-use Rattle.transfer.specs.declared.State.{State}
 use Rattle.isolation.specs.Replies.{Wire, Says}
 use Rattle.delivery.specs.Link.{Setting, Link, Move, frames_due, step, run, start}
 use Rattle.delivery.specs.Arrival.{Fair, CalmAt, Calm, works, measure, AtRest, whole, Arrives}
@@ -18,12 +18,13 @@ use Rattle.delivery.proofs.Expected.{count, Goes, kind_is, handed_by, from}
 use Rattle.delivery.proofs.Sending.{transfer_at, first_grant, Gives, announced_at_lem, gives_segment, gives_eoms, none_given}
 use Rattle.delivery.proofs.Stages.{flight, Stage, announcing, granting, moving, acknowledging, done, Marks, shape_at, link_at, Stands, Reached, measure_at}
 use Rattle.delivery.proofs.Steps.{Step, moves}
+use Rattle.transfer.specs.declared.Transfer.{Transfer}
 
 pub full : {A : Type 0} (a : A) (l : List A) → a ∷ l ≡ [] → ⊥
 full a l e = let z : ◌≡◌ {A = ℕ} 0 1 = cc in omega arith
 
 -- where a frame is given, something is due
-pub given : (s : Setting) (last : ℕ) {x y : State} {f : Wire} {w : Bool} → Gives s x last (f ∷ []) y w → frames_due s x last ≡ [] → ⊥
+pub given : (s : Setting) (last : ℕ) {x y : (Option Transfer)} {f : Wire} {w : Bool} → Gives s x last (f ∷ []) y w → frames_due s x last ≡ [] → ⊥
 given s last d e = full _ [] (sym d.frames ∙ e)
 
 pub by_works : (a b : ℕ) (w : Bool) → a + cond w 1 0 ≤ b → (w ≡ true → a < b) × (w ≡ false → a ≤ b)

@@ -1,17 +1,15 @@
 -- A broadcast that loses data: handed over, or ended by 19 or 21.
+use Rattle.std.specs.Prelude.{None, Option, Some}
 use Prim.Native.Nat.{ℕ, zero, suc, ◌+◌, ◌≤◌, ◌<◌}
 use mathlib.Core.Path.{◌≡◌, refl, sym, subst}
 use mathlib.Core.Logic.{◌⊎◌, inl, inr}
 use mathlib.Core.Bool.{Bool, true, false, cond, or-false}
-use mathlib.Core.Option.{Option, none, some}
 use mathlib.Core.List.{List, [], ◌∷◌, ◌++◌, append-nil}
 use native.Mathlib.Omega.{arith}
 use native.Mathlib.Decide.{ℕ_discrete, dec_lt}
 use Rattle.progress.specs.declared.wait.Wait.TheVariants.{Second}
 use Rattle.transport.specs.declared.Kind.{Kind}
 use Rattle.transport.specs.declared.Kind.TheVariants.{Bam}
-use Rattle.transfer.specs.declared.State.{State}
-use Rattle.transfer.specs.declared.State.TheVariants.{Closed}
 use Rattle.transfer.specs.Transfers.{kind_of}
 use Rattle.transfer.specs.Sends.{offer_wire, segment_wire, status_wire}
 use Rattle.isolation.specs.Replies.{Wire, Says}
@@ -25,6 +23,7 @@ use Rattle.delivery.proofs.Stages.{flight, flight_segment, flight_eoms, Marks}
 use Rattle.delivery.proofs.Steps.{sends, takes}
 use Rattle.delivery.proofs.Arrival.{full, given, by_works, handed_whole}
 use Rattle.delivery.proofs.Frames.{offer_kept, status_kept, forth_offer, forth_segment, forth_status, forth_flight, calm_sender, calm_receiver, calm_backward}
+use Rattle.transfer.specs.declared.Transfer.{Transfer}
 
 -- ---- of both kinds
 
@@ -48,7 +47,7 @@ abbrev pub receiver_reads : ℕ → Marks → Marks
 receiver_reads t m = record { senders_mark = m.senders_mark; senders_last = m.senders_last; receivers_mark = m.receivers_mark; receivers_last = t }
 
 -- a session that is closed sends no CTS
-pub answers_closed : (s : Setting) → to_answer s none ≡ 0
+pub answers_closed : (s : Setting) → to_answer s None ≡ 0
 unfolding to_answer
 answers_closed s = refl
 
@@ -56,7 +55,7 @@ answers_closed s = refl
 pub recovers_as : (κ : Kind) (s : Setting) → Goes κ s.key → (k : ℕ) (x : Link)
     → ((v : Lossy) → BorneAt s x v → RefusesOnly κ s x (lossy s x v))
     → ((v : Lossy) → BorneAt s x v → remaining s (lossy s x v) + cond (turns s x v) 1 0 ≤ remaining s x)
-    → (AtRest x → (x.session ≡ none) × (x.transfer ≡ Closed) × Outcome κ s k x)
+    → (AtRest x → (x.session ≡ None) × (x.transfer ≡ None) × Outcome κ s k x)
     → Recovers s k x
 recovers_as κ s goes k x refuses falls rests = record {
   refuses = λ v h. subst (λ (κ : Kind). RefusesOnly κ s x (lossy s x v)) here (refuses v h);
@@ -88,9 +87,9 @@ behind s (holding a) fs = fs
 behind s (lost c rs) fs = fs
 
 abbrev session_of : Setting → Silence → Held → Option rules.Open
-session_of s q unopened = none
-session_of s q (holding a) = some (session_at Bam s q a (count s))
-session_of s q (lost c rs) = none
+session_of s q unopened = None
+session_of s q (holding a) = Some (session_at Bam s q a (count s))
+session_of s q (lost c rs) = None
 
 abbrev refused_of : Held → List ℕ
 refused_of unopened = []
@@ -98,7 +97,7 @@ refused_of (holding a) = []
 refused_of (lost c rs) = c ∷ rs
 
 record Shape : Type 0 where
-  transfer : State
+  transfer : Option Transfer
   forward : List Wire
   session : Option rules.Open
   handed : List Says
@@ -115,8 +114,8 @@ shape_at s p q (going h j n e) = record {
   refused = refused_of h;
   well = ended_at Bam e;
 }
-shape_at s p q (over c rs) = record { transfer = Closed; forward = []; session = none; handed = []; refused = c ∷ rs; well = true }
-shape_at s p q done = record { transfer = Closed; forward = []; session = none; handed = handed_by Bam s ∷ []; refused = []; well = true }
+shape_at s p q (over c rs) = record { transfer = None; forward = []; session = None; handed = []; refused = c ∷ rs; well = true }
+shape_at s p q done = record { transfer = None; forward = []; session = None; handed = handed_by Bam s ∷ []; refused = []; well = true }
 
 abbrev link_at : Setting → Stage → Marks → Link
 link_at s stage m = record {
@@ -333,12 +332,12 @@ module _ (s : Setting) (fair : Fair s) (goes : Goes Bam s.key) (k : ℕ) (m : Ma
 
   loses : (stage : Stage) → Stands s k stage → BorneAt s (link_at s stage m) loses_forward → Step s k loses_forward stage m
   unfolding shape_at flight
-  loses (going unopened j n e) st h = absurd (offer_kept s fair none (flight s j n e) h)
+  loses (going unopened j n e) st h = absurd (offer_kept s fair None (flight s j n e) h)
   loses (going (holding a) j (suc n) e) (st, (l, u)) h = loses_held j n e st a l u
-  loses (going (holding a) j zero true) st h = absurd (status_kept s fair (some (session_at Bam s m.receivers_mark a (count s))) [] h)
+  loses (going (holding a) j zero true) st h = absurd (status_kept s fair (Some (session_at Bam s m.receivers_mark a (count s))) [] h)
   loses (going (holding a) j zero false) st h = absurd h
   loses (going (lost c rs) j (suc n) e) (st, i) h = loses_lost j n e st c rs i
-  loses (going (lost c rs) j zero true) st h = absurd (status_kept s fair none [] h)
+  loses (going (lost c rs) j zero true) st h = absurd (status_kept s fair None [] h)
   loses (going (lost c rs) j zero false) st h = absurd h
   loses (over c rs) st h = absurd h
   loses done st h = absurd h
@@ -374,7 +373,7 @@ module _ (s : Setting) (fair : Fair s) (goes : Goes Bam s.key) (k : ℕ) (m : Ma
       go (no l) w = given s m.senders_last (gives_eoms s m.senders_mark m.senders_last i (count s) Bam goes (omega arith)) h
 
   rest_at_lem : (stage : Stage) → Stands s k stage → AtRest (link_at s stage m)
-      → ((link_at s stage m).session ≡ none) × ((link_at s stage m).transfer ≡ Closed) × Outcome Bam s k (link_at s stage m)
+      → ((link_at s stage m).session ≡ None) × ((link_at s stage m).transfer ≡ None) × Outcome Bam s k (link_at s stage m)
   unfolding shape_at flight
   rest_at_lem (going unopened j n e) st h = absurd (full _ _ h.forward)
   rest_at_lem (going (holding a) j (suc n) e) st h = absurd (full _ _ h.forward)

@@ -1,4 +1,5 @@
 -- Runs from record to record, with another transfer and another session open: the theorems are not about nothing.
+use Rattle.std.specs.Prelude.{None}
 use Prim.Native.Nat.{ℕ, zero, suc}
 use native.Mathlib.Omega.{arith}
 use mathlib.Core.Logic.{inl}
@@ -23,7 +24,6 @@ use Rattle.session.specs.Segments.{due_of, judged_of}
 use Rattle.session.specs.Ends.{elapsed}
 use Rattle.slots.specs.Slots.{free_slot}
 use Rattle.slots.specs.Bounds.{slots_ok}
-use Rattle.transfer.specs.declared.State.TheVariants.{Closed}
 use Rattle.transfer.specs.Transfers.{segments_of}
 use Rattle.transfer.specs.Decisions.{announced_to, next_frame, asked_to, cts_open, eoma_open, hears}
 use Rattle.sender_bytes.specs.Layout.{Sender}
@@ -57,7 +57,7 @@ abbrev setting : Setting
 setting = record { values = record { own = record { 0 = 32 }; limits = limits }; key = 524803; limit = 2500; pgn = 65265; message = ramp 100 }
 
 abbrev originator : Sender
-originator = record { own = record { 0 = 128 }; limit = 2500; last = 0; transfers = replicate 4 Closed }
+originator = record { own = record { 0 = 128 }; limit = 2500; last = 0; transfers = replicate 4 None }
 
 abbrev responder : Receiver
 responder = opened_with (record { 0 = 32 }) limits 0
@@ -161,7 +161,7 @@ silences = opening (loses_backward ∷ keeps (read_receiver 1250) ∷ keeps (rea
 abbrev silent : System
 silent = lossy_run setting before silences
 
-falls_silent : (length silent.forward ≡ 1) × (length silent.backward ≡ 1) × (silent.sender.transfers ≡ replicate 4 Closed) × (silent.receiver.slots ≡ replicate 8 free_slot)
+falls_silent : (length silent.forward ≡ 1) × (length silent.backward ≡ 1) × (silent.sender.transfers ≡ replicate 4 None) × (silent.receiver.slots ≡ replicate 8 free_slot)
 unfolding sender.in_bounds in_bounds slots_ok model.announce_step model.ask_step model.frame_step model.reading_step announced_to next_frame asked_to cts_open eoma_open hears ramp
     judged by_format frame_length control_of id_to segment_bytes data_frame_of response_bytes response_of grant_of form_of segment_to status_to session.announced_to due_of judged_of is_in missing_of digit elapsed segments_of
     announce_step status_step control_step segment_step frame_all reading_step reply_of says_of asked heard system.taken taken_forward taken_backward aside start step

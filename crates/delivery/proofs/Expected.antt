@@ -1,10 +1,10 @@
 -- What the receiver does with the frame expected next, and with what a broadcast finds after a loss. It and Requests know its rules; the
 -- rest sees `session_at` shut.
+use Rattle.std.specs.Prelude.{None, Option, Some}
 use Prim.Native.Nat.{ℕ, suc, ◌+◌, ◌-◌, ◌/◌, ◌%◌, ◌≤◌, ◌<◌}
 use mathlib.Core.Path.{◌≡◌, refl, ap, ◌∙◌}
 use mathlib.Core.Logic.{◌⊎◌, inl, inr}
 use mathlib.Core.Bool.{true, false, cond, not, ◌&&◌, and-false}
-use mathlib.Core.Option.{Option, none, some}
 use mathlib.Core.List.{List, ◌∷◌}
 use native.Mathlib.Omega.{arith}
 use native.Mathlib.Decide.{ℕ_discrete}
@@ -100,19 +100,19 @@ module _ (s : Setting) (fair : Fair s) where
           ne_eqb (count s % 256) 0 (λ e. omega arith)
       go Bam = refl
 
-  pub accepted : (κ : Kind) → Goes κ s.key → (last : ℕ) → received s none last (offer_wire (offer s)) ≡ opens s.key last (announcement_for κ s)
+  pub accepted : (κ : Kind) → Goes κ s.key → (last : ℕ) → received s None last (offer_wire (offer s)) ≡ opens s.key last (announcement_for κ s)
   unfolding rule announced admitted announcement_for
   accepted κ e last =
-      ap (by_body s none last) (reads_for s _ _ (on_offer s fair) ∙ ap (λ (a : Announcement). some (announce a)) (announced_is κ s e))
+      ap (by_body s None last) (reads_for s _ _ (on_offer s fair) ∙ ap (λ (a : Announcement). Some (announce a)) (announced_is κ s e))
       ∙ rw (aimed_well κ e, good_numbers κ, le-ltb 4096 (length s.message) fair.few_bytes, pgn_same s.pgn, fair.in_form)
 
   -- an RTS is answered by a first grant; a broadcast has all from the start
   abbrev pub Opened : Kind → ℕ → Type 0
   Opened Rts last =
       (c : ℕ) × (1 ≤ c) × (c ≤ count s)
-      × (received s none last (offer_wire (offer s)) ≡ (some (session_at Rts s (from last First) 0 c), cts s.key 1 c s.pgn))
+      × (received s None last (offer_wire (offer s)) ≡ (Some (session_at Rts s (from last First) 0 c), cts s.key 1 c s.pgn))
   Opened Bam last =
-      received s none last (offer_wire (offer s)) ≡ (some (session_at Bam s (from last Second) 0 (count s)), plain (opened (key_in s)))
+      received s None last (offer_wire (offer s)) ≡ (Some (session_at Bam s (from last Second) 0 (count s)), plain (opened (key_in s)))
 
   -- the grants that an RTS session gives
   granted_next : (left : ℕ) → 1 ≤ left → left ≤ count s → (1 ≤ grant_of (count s % 256) left) × (grant_of (count s % 256) left ≤ left)
@@ -138,11 +138,11 @@ module _ (s : Setting) (fair : Fair s) (last : ℕ) (q : Silence) (j g : ℕ) (l
   in_turn κ = rw (length_cut (length s.message) j s.message, le-ltb (j + 1) (j + 1) (omega arith)) (and-false (not (is_rts (session_at κ s q j g).told.kind)))
 
   -- it is in order and whole, so it is added
-  in_order : (κ : Kind) → received s (some (session_at κ s q j g)) last (segment_wire (key_in s) s.message (j + 1))
+  in_order : (κ : Kind) → received s (Some (session_at κ s q j g)) last (segment_wire (key_in s) s.message (j + 1))
       ≡ adds s.key last (session_at κ s q j g) (j + 1) (data_at (frame_of s fair (j + 1)))
   unfolding rule segment_open session_at announcement_for
   in_order κ =
-      ap (by_body s (some (session_at κ s q j g)) last) (reads_for s _ _ (on_segment s fair (j + 1) (omega arith) (omega arith)))
+      ap (by_body s (Some (session_at κ s q j g)) last) (reads_for s _ _ (on_segment s fair (j + 1) (omega arith) (omega arith)))
       ∙ rw (
         in_turn κ,
         taken_same (length s.message) j s.message (j + 1),
@@ -156,12 +156,12 @@ module _ (s : Setting) (fair : Fair s) (last : ℕ) (q : Silence) (j g : ℕ) (l
   -- an RTS session: as yet no answer, or the grant is used up and the next one goes out
   pub data SegmentTaken : Type 0 where
     quiet : (j + 1 < g) ⊎ (j + 1 ≡ count s)
-        → received s (some (session_at Rts s q j g)) last (segment_wire (key_in s) s.message (j + 1))
-        ≡ (some (session_at Rts s (from last Second) (j + 1) g), plain (took (key_in s) (j + 1)))
+        → received s (Some (session_at Rts s q j g)) last (segment_wire (key_in s) s.message (j + 1))
+        ≡ (Some (session_at Rts s (from last Second) (j + 1) g), plain (took (key_in s) (j + 1)))
         → SegmentTaken
     grants : j + 1 ≡ g → (c : ℕ) → 1 ≤ c → j + 1 + c ≤ count s
-        → received s (some (session_at Rts s q j g)) last (segment_wire (key_in s) s.message (j + 1))
-        ≡ (some (session_at Rts s (from last First) (j + 1) (j + 1 + c)), cts s.key (j + 1 + 1) c s.pgn)
+        → received s (Some (session_at Rts s q j g)) last (segment_wire (key_in s) s.message (j + 1))
+        ≡ (Some (session_at Rts s (from last First) (j + 1) (j + 1 + c)), cts s.key (j + 1 + 1) c s.pgn)
         → SegmentTaken
 
   piece_here : take (due (length s.message) (j + 1)) (data_at (frame_of s fair (j + 1))) ≡ piece_of s.message (j + 1)
@@ -184,8 +184,8 @@ module _ (s : Setting) (fair : Fair s) (last : ℕ) (q : Silence) (j g : ℕ) (l
           (in_order Rts
           ∙ rw (eq-eqb (j + 1) g e, lt-ltb (j + 1) (count s) left, piece_here, next_piece s.message j, grant_same (count s % 256) (count s - (j + 1))))
 
-  pub on_segment_bam : received s (some (session_at Bam s q j g)) last (segment_wire (key_in s) s.message (j + 1))
-      ≡ (some (session_at Bam s (from last Second) (j + 1) g), plain (took (key_in s) (j + 1)))
+  pub on_segment_bam : received s (Some (session_at Bam s q j g)) last (segment_wire (key_in s) s.message (j + 1))
+      ≡ (Some (session_at Bam s (from last Second) (j + 1) g), plain (took (key_in s) (j + 1)))
   unfolding session_at announcement_for adds spent is_rts
   on_segment_bam = in_order Bam ∙ rw (piece_here, next_piece s.message j)
 
@@ -200,8 +200,8 @@ abbrev pub handed_by : Kind → Setting → Says
 handed_by κ s = handed (key_in s) κ (length s.message) (count s) s.pgn s.message
 
 abbrev pub acknowledged : Kind → Setting → Option Wire
-acknowledged Rts s = some (eoma_wire s)
-acknowledged Bam s = none
+acknowledged Rts s = Some (eoma_wire s)
+acknowledged Bam s = None
 
 pub hands_over_lem : (κ : Kind) (s : Setting) → hand_over s.key (announcement_for κ s) s.message ≡ record { number = 0; says = handed_by κ s; sends = acknowledged κ s }
 unfolding hand_over announcement_for is_rts sent
@@ -209,10 +209,10 @@ hands_over_lem Rts s = refl
 hands_over_lem Bam s = refl
 
 pub on_eoms : (s : Setting) → Fair s → (κ : Kind) (last : ℕ) (q : Silence) (g : ℕ)
-    → received s (some (session_at κ s q (count s) g)) last (status_wire (offer s)) ≡ (none, record { number = 0; says = handed_by κ s; sends = acknowledged κ s })
+    → received s (Some (session_at κ s q (count s) g)) last (status_wire (offer s)) ≡ (None, record { number = 0; says = handed_by κ s; sends = acknowledged κ s })
 unfolding rule status_open as_announced session_at announcement_for
 on_eoms s fair κ last q g =
-    ap (by_body s (some (session_at κ s q (count s) g)) last) (reads_for s _ _ (on_status s fair))
+    ap (by_body s (Some (session_at κ s q (count s) g)) last) (reads_for s _ _ (on_status s fair))
     ∙ rw (
       length_cut (length s.message) (count s) s.message,
       eq-eqb (count s) (count s) refl,
@@ -220,20 +220,20 @@ on_eoms s fair κ last q g =
       eq-eqb s.pgn s.pgn refl,
       joined_all s.message,
     )
-    (ap (λ (r : Reply). (none, r)) (hands_over_lem κ s))
+    (ap (λ (r : Reply). (None, r)) (hands_over_lem κ s))
 
 -- ---- a broadcast that has lost a segment, and one that has ended
 
 -- the session has ended by a refusal
 abbrev pub broken_off : Setting → ℕ → Reply
-broken_off s n = record { number = n; says = ended (key_in s) Bam s.pgn; sends = none }
+broken_off s n = record { number = n; says = ended (key_in s) Bam s.pgn; sends = None }
 
 module _ (s : Setting) (fair : Fair s) (last : ℕ) (q : Silence) where
   pub later_segment : (a j g : ℕ) → a < j → j < count s
-      → received s (some (session_at Bam s q a g)) last (segment_wire (key_in s) s.message (j + 1)) ≡ (none, broken_off s 19)
+      → received s (Some (session_at Bam s q a g)) last (segment_wire (key_in s) s.message (j + 1)) ≡ (None, broken_off s 19)
   unfolding rule segment_open out_of_turn session_at announcement_for is_rts
   later_segment a j g l u =
-      ap (by_body s (some (session_at Bam s q a g)) last) (reads_for s _ _ (on_segment s fair (j + 1) (omega arith) (omega arith)))
+      ap (by_body s (Some (session_at Bam s q a g)) last) (reads_for s _ _ (on_segment s fair (j + 1) (omega arith) (omega arith)))
       ∙ rw (
         taken_same (length s.message) a s.message (j + 1),
         ne_eqb (j + 1) 0 (λ e. omega arith),
@@ -243,10 +243,10 @@ module _ (s : Setting) (fair : Fair s) (last : ℕ) (q : Silence) where
       )
       (unfold ending number_for in refl)
 
-  pub early_eoms : (a g : ℕ) → a < count s → received s (some (session_at Bam s q a g)) last (status_wire (offer s)) ≡ (none, broken_off s 21)
+  pub early_eoms : (a g : ℕ) → a < count s → received s (Some (session_at Bam s q a g)) last (status_wire (offer s)) ≡ (None, broken_off s 21)
   unfolding rule status_open as_announced lacks session_at announcement_for is_rts
   early_eoms a g l =
-      ap (by_body s (some (session_at Bam s q a g)) last) (reads_for s _ _ (on_status s fair))
+      ap (by_body s (Some (session_at Bam s q a g)) last) (reads_for s _ _ (on_status s fair))
       ∙ rw (
         length_cut (length s.message) a s.message,
         ne_eqb a (count s) (λ e. omega arith),
@@ -256,15 +256,15 @@ module _ (s : Setting) (fair : Fair s) (last : ℕ) (q : Silence) where
       )
       (unfold ending number_for in refl)
 
-  pub closed_segment : (j : ℕ) → j < count s → received s none last (segment_wire (key_in s) s.message (j + 1)) ≡ (none, refuse 16)
+  pub closed_segment : (j : ℕ) → j < count s → received s None last (segment_wire (key_in s) s.message (j + 1)) ≡ (None, refuse 16)
   unfolding rule
-  closed_segment j l = ap (by_body s none last) (reads_for s _ _ (on_segment s fair (j + 1) (omega arith) (omega arith)))
+  closed_segment j l = ap (by_body s None last) (reads_for s _ _ (on_segment s fair (j + 1) (omega arith) (omega arith)))
 
-  pub closed_eoms : received s none last (status_wire (offer s)) ≡ (none, refuse 16)
+  pub closed_eoms : received s None last (status_wire (offer s)) ≡ (None, refuse 16)
   unfolding rule
-  closed_eoms = ap (by_body s none last) (reads_for s _ _ (on_status s fair))
+  closed_eoms = ap (by_body s None last) (reads_for s _ _ (on_status s fair))
 
 -- it sends no CTS
-pub answers_none : (s : Setting) (q : Silence) (a g : ℕ) → to_answer s (some (session_at Bam s q a g)) ≡ 0
+pub answers_none : (s : Setting) (q : Silence) (a g : ℕ) → to_answer s (Some (session_at Bam s q a g)) ≡ 0
 unfolding to_answer session_at announcement_for is_rts
 answers_none s q a g = refl

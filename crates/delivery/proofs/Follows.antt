@@ -1,9 +1,9 @@
 -- The records follow the link: every move of the system is a move of the link of one transfer and one session, or leaves it as it is.
 -- Whatever a reading ends.
+use Rattle.std.specs.Prelude.{Err, None, Ok, Option, Result, Some, is_some}
 use Prim.Native.Nat.{ℕ}
 use mathlib.Core.Path.{◌≡◌, refl, sym, ap, ◌∙◌, subst}
 use mathlib.Core.Bool.{Bool, true, false, cond, not, ◌&&◌, ◌||◌, and-false}
-use mathlib.Core.Option.{Option, none, some}
 use mathlib.Core.List.{List, [], ◌∷◌, ◌++◌, append-nil}
 use lib.Dec.{eqb}
 use lib.ListN.{length}
@@ -15,17 +15,14 @@ use Rattle.frame.specs.declared.refusal.Refusal.TheVariants.{KeyNotOpen}
 use Rattle.frame.specs.Identifiers.{identifier_of}
 use Rattle.frame.specs.Judge.{route_of, judged}
 use Rattle.transport.specs.declared.Key.{Key}
-use Rattle.transport.specs.declared.response.ResponseRead.{ResponseRead}
 use Rattle.transport.specs.declared.response.ResponseRead.TheVariants as response
 use Rattle.transport.specs.Heads.{control_at, session_key_of}
 use Rattle.transport.specs.Aborts.{role_at}
 use Rattle.transport.specs.Responses.{response_of}
-use Rattle.slots.specs.Slots.{first_free, is_at}
+use Rattle.slots.specs.Slots.{first_free}
 use Rattle.transfer.specs.declared.Transfer.{Transfer}
-use Rattle.transfer.specs.declared.State.{State}
-use Rattle.transfer.specs.declared.State.TheVariants.{Closed, Open}
-use Rattle.transfer.specs.declared.Change.{Change}
-use Rattle.transfer.specs.declared.Change.TheVariants.{Stays, Opens, Moves, Ends}
+use Rattle.session.specs.declared.Change.{Change}
+use Rattle.session.specs.declared.Change.TheVariants.{Stays, Opens, Moves, Ends}
 use Rattle.transfer.specs.declared.Reply.{Reply}
 use Rattle.transfer.specs.declared.Step.{Step}
 use Rattle.transfer.specs.Decisions.{after, refused, asked_to, hears}
@@ -56,6 +53,9 @@ use Rattle.delivery.proofs.SafeSender.{Sending, closed, sending, fits_asked, fit
 use Rattle.delivery.proofs.Queues.{right_reads, Responses, responses_join, Answers, Aimed, rule_answers}
 use Rattle.delivery.proofs.Sides.{Ready, in_bounds_lem, Acts, Called, Leaves, asks_own, ask_aside_lem, announce_aside_lem, hear_called, hear_aside_lem, reading_reads}
 use Rattle.delivery.proofs.Receiving.{Becomes, session_aimed, frame_replies, frame_becomes, aside_becomes, aside_hands, reading_becomes, reading_stays}
+use Rattle.frame.specs.declared.refusal.Refusal.{Refusal}
+use Rattle.transport.specs.declared.response.ResponseRead.{ResponseRead}
+use Rattle.transfer.specs.declared.Course.{Course}
 
 -- ---- the link that a system stands for, with a world of rules that explains its receiver
 
@@ -81,27 +81,27 @@ pub record Stands (s : Setting) (y : System) (x : Link) : Type 0 where
 -- ---- the move of the link that a move of the system is, if it is one
 
 abbrev pub link_move : Move → Option link.Move
-link_move ask = some link.ask
-link_move take_forward = some link.take_forward
-link_move take_backward = some link.take_backward
-link_move (read_sender t) = some (link.read_sender t)
-link_move (read_receiver t) = some (link.read_receiver t)
-link_move (frame_aside id d) = none
-link_move (announce_aside da session pgn n) = none
-link_move (ask_aside da session n) = none
-link_move (hear_aside id d) = none
+link_move ask = Some link.ask
+link_move take_forward = Some link.take_forward
+link_move take_backward = Some link.take_backward
+link_move (read_sender t) = Some (link.read_sender t)
+link_move (read_receiver t) = Some (link.read_receiver t)
+link_move (frame_aside id d) = None
+link_move (announce_aside da session pgn n) = None
+link_move (ask_aside da session n) = None
+link_move (hear_aside id d) = None
 
 abbrev pub moved : Setting → Link → Option link.Move → Link
-moved s x none = x
-moved s x (some u) = link.step s x u
+moved s x None = x
+moved s x (Some u) = link.step s x u
 
 abbrev pub moved_works : Setting → Link → Option link.Move → Bool
-moved_works s x none = false
-moved_works s x (some u) = single.works s x u
+moved_works s x None = false
+moved_works s x (Some u) = single.works s x u
 
 abbrev pub MovedCalm : Setting → Link → Option link.Move → Type 0
-MovedCalm s x none = Unit {0}
-MovedCalm s x (some u) = CalmAt s x u
+MovedCalm s x None = Unit {0}
+MovedCalm s x (Some u) = CalmAt s x u
 
 -- the premises of Whole are more
 pub meets_allows : (s : Setting) (y : System) (v : Move) → MeetsAt s y v → AllowsAt s y (keeps v)
@@ -117,34 +117,34 @@ meets_allows s y (hear_aside id d) m = m
 
 -- ---- links by their parts
 
-abbrev made : State → List Wire → List Wire → Option rules.Open → List Says → List ℕ → ℕ → ℕ → Bool → Link
+abbrev made : Option Transfer → List Wire → List Wire → Option rules.Open → List Says → List ℕ → ℕ → ℕ → Bool → Link
 made t f b x h r p q w = record { transfer = t; forward = f; backward = b; session = x; handed = h; refused = r; senders_last = p; receivers_last = q; well = w }
 
-same_link : {t t' : State} {f f' b b' : List Wire} {x x' : Option rules.Open} {h h' : List Says} {r r' : List ℕ} {p p' q q' : ℕ} {w w' : Bool}
+same_link : {t t' : (Option Transfer)} {f f' b b' : List Wire} {x x' : Option rules.Open} {h h' : List Says} {r r' : List ℕ} {p p' q q' : ℕ} {w w' : Bool}
     → t ≡ t' → f ≡ f' → b ≡ b' → x ≡ x' → h ≡ h' → r ≡ r' → p ≡ p' → q ≡ q' → w ≡ w' → made t f b x h r p q w ≡ made t' f' b' x' h' r' p' q' w'
 same_link a c d e g i j k l = rw (a, c, d, e, g, i, j, k, l)
 
 -- ---- a step of the transfer ends it well
 
-free_end : (t : Transfer) (c : Change) → is_free (after (Open t) c) ≡ is_end c
+free_end : (t : Transfer) (c : Change Transfer Course) → is_free (after (Some t) c) ≡ is_end c
 free_end t Stays = refl
 free_end t (Opens u) = refl
 free_end t (Moves c) = refl
 free_end t Ends = refl
 
-well_is : (x : State) (st : Step) → (x ≡ Closed → is_good st.reply ≡ false) → (is_free (after x st.change) && is_good st.reply) ≡ link.ends_well st
-well_is Closed st h = rw (h refl) (and-false (is_free (after Closed st.change)) ∙ sym (and-false (is_end st.change)))
-well_is (Open t) st h = ap (λ (b : Bool). b && is_good st.reply) (free_end t st.change)
+well_is : (x : Option Transfer) (st : Step) → (x ≡ None → is_good st.reply ≡ false) → (is_free (after x st.change) && is_good st.reply) ≡ link.ends_well st
+well_is None st h = rw (h refl) (and-false (is_free (after None st.change)) ∙ sym (and-false (is_end st.change)))
+well_is (Some t) st h = ap (λ (b : Bool). b && is_good st.reply) (free_end t st.change)
 
-module _ (s : Setting) (x : State) (p : Sender) (st : Step) (a : Stepped) (c : Called (key_in s) st p a) (is : state_for (key_in s) p ≡ x) (bad : x ≡ Closed → is_good st.reply ≡ false) where
+module _ (s : Setting) (x : Option Transfer) (p : Sender) (st : Step) (a : Stepped) (c : Called (key_in s) st p a) (is : state_for (key_in s) p ≡ x) (bad : x ≡ None → is_good st.reply ≡ false) where
   here : state_for (key_in s) a.1 ≡ after x st.change
-  here = c.acts.here ∙ ap (λ (z : State). after z st.change) is
+  here = c.acts.here ∙ ap (λ (z : Option Transfer). after z st.change) is
 
   ends_well_lem : is_well s a ≡ link.ends_well st
-  ends_well_lem = ap (λ (z : State). is_free z && is_good a.0) here ∙ ap (λ (r : Reply). is_free (after x st.change) && is_good r) c.reply ∙ well_is x st bad
+  ends_well_lem = ap (λ (z : Option Transfer). is_free z && is_good a.0) here ∙ ap (λ (r : Reply). is_free (after x st.change) && is_good r) c.reply ∙ well_is x st bad
 
 module _ (s : Setting) (fair : Fair s) (y : System) (w : World) (h : Fits s y w) where
-  abbrev known : State
+  abbrev known : Option Transfer
   known = state_for (key_in s) y.sender
 
   abbrev Next : System → Option link.Move → Type 0
@@ -154,7 +154,7 @@ module _ (s : Setting) (fair : Fair s) (y : System) (w : World) (h : Fits s y w)
   ready = in_bounds_lem y.sender h.ready
 
   -- after a step of the transfer, and after one that leaves it alone
-  fits_acts : (c : Change) (q : Sender) → Acts (key_in s) c y.sender q → Sending s (after known c)
+  fits_acts : (c : Change Transfer Course) (q : Sender) → Acts (key_in s) c y.sender q → Sending s (after known c)
       → (y' : System) → y'.sender ≡ q → y'.receiver ≡ y.receiver → y'.store ≡ y.store → Rights s y'.forward → Responses s y'.backward → Fits s y' w
   fits_acts c q a still y' e f g forth back = record {
     ready = rw e a.ready;
@@ -167,7 +167,7 @@ module _ (s : Setting) (fair : Fair s) (y : System) (w : World) (h : Fits s y w)
   }
 
   left_alone : (q : Sender) → Leaves (key_in s) y.sender q
-      → Next (record { sender = q; receiver = y.receiver; store = y.store; forward = y.forward; backward = y.backward; handed = y.handed; refused = y.refused; well = y.well }) none
+      → Next (record { sender = q; receiver = y.receiver; store = y.store; forward = y.forward; backward = y.backward; handed = y.handed; refused = y.refused; well = y.well }) None
   left_alone q a = record {
     world = w;
     fits = record {
@@ -184,12 +184,12 @@ module _ (s : Setting) (fair : Fair s) (y : System) (w : World) (h : Fits s y w)
 
   -- ---- an ask
 
-  asked_as : (x : State) → Sending s x → (last : ℕ) → asked_to x (length s.message) last ≡ answered x last
+  asked_as : (x : Option Transfer) → Sending s x → (last : ℕ) → asked_to x (length s.message) last ≡ answered x last
   unfolding asked_to answered
-  asked_as Closed closed last = refl
-  asked_as (Open t) (sending c v) last = rw (eq-eqb (length s.message) (length s.message) refl)
+  asked_as None closed last = refl
+  asked_as (Some t) (sending c v) last = rw (eq-eqb (length s.message) (length s.message) refl)
 
-  not_good : (x : State) (last : ℕ) → x ≡ Closed → is_good (answered x last).reply ≡ false
+  not_good : (x : Option Transfer) (last : ℕ) → x ≡ None → is_good (answered x last).reply ≡ false
   unfolding answered
   not_good x last e = rw e
 
@@ -202,7 +202,7 @@ module _ (s : Setting) (fair : Fair s) (y : System) (w : World) (h : Fits s y w)
   due_given : given s (asks_for s y.sender) ≡ frames_due s known y.sender.last
   due_given = ap (λ (r : Reply). queued (sends (key_in s) s.message r)) ask_called.reply
 
-  ask_next : Next (step s y ask) (some link.ask)
+  ask_next : Next (step s y ask) (Some link.ask)
   unfolding step asked link.step link.asked
   ask_next =
       let st : Step = answered known y.sender.last in
@@ -222,8 +222,8 @@ module _ (s : Setting) (fair : Fair s) (y : System) (w : World) (h : Fits s y w)
   aimed = go (w s.key).session refl
     where
       go : (x : Option rules.Open) → (w s.key).session ≡ x → Aimed s x
-      go none e = tt
-      go (some ρ) e = session_aimed s.values y.receiver y.store w h.sim s.key ρ e
+      go None e = tt
+      go (Some ρ) e = session_aimed s.values y.receiver y.store w h.sim s.key ρ e
 
   module _ (f : Wire) (rest : List Wire) (queue : y.forward ≡ f ∷ rest) (free : HasRoom s (f ∷ rest) y.receiver) where
     rights : Rights s (f ∷ rest)
@@ -235,7 +235,7 @@ module _ (s : Setting) (fair : Fair s) (y : System) (w : World) (h : Fits s y w)
     out : Out
     out = rule s.values s.key y.receiver.last false (w s.key).session read.0
 
-    slot : is_announcement read.0 ≡ true → is_at (first_free y.receiver.slots) ≡ true
+    slot : is_announcement read.0 ≡ true → is_some (first_free y.receiver.slots) ≡ true
     slot e = free (ap announces (reads_for s f read.0 read.1) ∙ e)
 
     reply : answer_of (frame_all y.receiver f.0 f.1 y.store) ≡ out.1
@@ -256,7 +256,7 @@ module _ (s : Setting) (fair : Fair s) (y : System) (w : World) (h : Fits s y w)
         ap (link.taken_forward s (link_of s y w)) queue
         ∙ ap (λ (b : Option Body). link.at_receiver (link_of s y w) rest (link.by_body s (w s.key).session y.receiver.last b)) (reads_for s f read.0 read.1)
 
-    forward_next : Next (taken s y rest (frame_all y.receiver f.0 f.1 y.store)) (some link.take_forward)
+    forward_next : Next (taken s y rest (frame_all y.receiver f.0 f.1 y.store)) (Some link.take_forward)
     unfolding taken link.at_receiver
     forward_next = record {
       world = becomes.world;
@@ -286,18 +286,18 @@ module _ (s : Setting) (fair : Fair s) (y : System) (w : World) (h : Fits s y w)
       (λ _. either_way Is (eqb (control_at d) 3) (λ _. mine)
       (λ _. either_way Is (eqb (control_at d) 15) (λ _. either_way Is (eqb (role_at d) 1) (λ _. mine) (λ _. refl)) (λ _. refl))))
     where
-      Is : ResponseRead → Type 0
+      Is : Result ResponseRead Refusal → Type 0
       Is r = is_for s.key r ≡ true
 
       mine : eqb (link.key_number (session_key_of ρ d)) s.key ≡ true
       mine = eq-eqb _ s.key (ap link.key_number e ∙ number_of_lem s.key)
 
-  none_heard : (x : State) (r : ResponseRead) (last : ℕ) → x ≡ Closed → is_good (hears x r last).reply ≡ false
+  none_heard : (x : Option Transfer) (r : Result ResponseRead Refusal) (last : ℕ) → x ≡ None → is_good (hears x r last).reply ≡ false
   unfolding hears
-  none_heard x (response.Cts f) last e = rw e
-  none_heard x (response.Eoma f) last e = rw e
-  none_heard x (response.Abort f) last e = rw e
-  none_heard x (response.Refused n) last e = refl
+  none_heard x (Ok (response.Cts f)) last e = rw e
+  none_heard x (Ok (response.Eoma f)) last e = rw e
+  none_heard x (Ok (response.Abort f)) last e = rw e
+  none_heard x (Err n) last e = refl
 
   module _ (f : Wire) (rest : List Wire) (queue : y.backward ≡ f ∷ rest) where
     responses : Responses s (f ∷ rest)
@@ -329,7 +329,7 @@ module _ (s : Setting) (fair : Fair s) (y : System) (w : World) (h : Fits s y w)
     pub heard_sends : given s (sender.frame_step y.sender f.0 f.1) ≡ queued (sends (key_in s) s.message (link.heard s (state_for (key_in s) y.sender) y.sender.last f).reply)
     heard_sends = ap (λ (r : Reply). queued (sends (key_in s) s.message r)) (called.reply ∙ ap (λ (st : Step). st.reply) (sym link_heard))
 
-    backward_next : Next (heard s y rest (sender.frame_step y.sender f.0 f.1)) (some link.take_backward)
+    backward_next : Next (heard s y rest (sender.frame_step y.sender f.0 f.1)) (Some link.take_backward)
     unfolding heard link.at_sender
     backward_next = record {
       world = w;
@@ -342,7 +342,7 @@ module _ (s : Setting) (fair : Fair s) (y : System) (w : World) (h : Fits s y w)
 
   -- ---- the other moves
 
-  sender_reads_lem : (t : ℕ) → Next (step s y (read_sender t)) (some (link.read_sender t))
+  sender_reads_lem : (t : ℕ) → Next (step s y (read_sender t)) (Some (link.read_sender t))
   unfolding step link.step link.read
   sender_reads_lem t =
       let a = reading_reads y.sender ready (key_in s) t in
@@ -361,7 +361,7 @@ module _ (s : Setting) (fair : Fair s) (y : System) (w : World) (h : Fits s y w)
         same = same_link e refl refl refl refl refl a.last refl refl;
       }
 
-  receiver_reads_lem : (t : ℕ) → Next (step s y (read_receiver t)) (some (link.read_receiver t))
+  receiver_reads_lem : (t : ℕ) → Next (step s y (read_receiver t)) (Some (link.read_receiver t))
   unfolding step link.step link.read
   receiver_reads_lem t =
       let b = reading_becomes s.values y.receiver y.store w h.sim s.key t in
@@ -371,7 +371,7 @@ module _ (s : Setting) (fair : Fair s) (y : System) (w : World) (h : Fits s y w)
         same = same_link refl refl refl b.session refl refl refl b.last refl;
       }
 
-  frame_next : (id : ℕ) (d : List ℕ) → MeetsAt s y (frame_aside id d) → Next (step s y (frame_aside id d)) none
+  frame_next : (id : ℕ) (d : List ℕ) → MeetsAt s y (frame_aside id d) → Next (step s y (frame_aside id d)) None
   unfolding step aside
   frame_next id d other =
       let b = aside_becomes s.values y.receiver y.store w h.sim s.key id d other in
@@ -383,12 +383,12 @@ module _ (s : Setting) (fair : Fair s) (y : System) (w : World) (h : Fits s y w)
             refl refl b.last refl;
       }
 
-  forward_step : (l : List Wire) → y.forward ≡ l → HasRoom s l y.receiver → Next (taken_forward s y l) (some link.take_forward)
+  forward_step : (l : List Wire) → y.forward ≡ l → HasRoom s l y.receiver → Next (taken_forward s y l) (Some link.take_forward)
   unfolding taken_forward
   forward_step [] e free = record { world = w; fits = h; same = unfold link.step link.taken_forward in rw e }
   forward_step (f ∷ rest) e free = forward_next f rest e free
 
-  backward_step : (l : List Wire) → y.backward ≡ l → Next (taken_backward s y l) (some link.take_backward)
+  backward_step : (l : List Wire) → y.backward ≡ l → Next (taken_backward s y l) (Some link.take_backward)
   unfolding taken_backward
   backward_step [] e = record { world = w; fits = h; same = unfold link.step link.taken_backward in rw e }
   backward_step (f ∷ rest) e = backward_next f rest e

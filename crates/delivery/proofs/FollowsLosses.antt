@@ -1,8 +1,8 @@
 -- The records follow the link over queues that lose frames, and where ends fall silent: as in Follows, with the Aborts that then go out.
+use Rattle.std.specs.Prelude.{None, Option, Some}
 use Prim.Native.Nat.{ℕ}
 use mathlib.Core.Path.{◌≡◌, refl, sym, ap, ◌∙◌, subst}
 use mathlib.Core.Bool.{Bool, false}
-use mathlib.Core.Option.{Option, none, some}
 use mathlib.Core.List.{List, [], ◌∷◌, ◌++◌}
 use Rattle.sender.specs.Model as sender
 use Rattle.receiver.specs.Calls.{reading_step}
@@ -27,21 +27,21 @@ use Rattle.delivery.proofs.Follows.{link_of, Fits, Stands, link_move, moved_work
 -- ---- the move of the lossy link that a move of the lossy system is, if it is one
 
 abbrev pub kept : Option link.Move → Option losses.Lossy
-kept none = none
-kept (some u) = some (losses.keeps u)
+kept None = None
+kept (Some u) = Some (losses.keeps u)
 
 abbrev pub lossy_move : Lossy → Option losses.Lossy
 lossy_move (keeps v) = kept (link_move v)
-lossy_move loses_forward = some losses.loses_forward
-lossy_move loses_backward = some losses.loses_backward
+lossy_move loses_forward = Some losses.loses_forward
+lossy_move loses_backward = Some losses.loses_backward
 
 abbrev pub lossy_moved : Setting → Link → Option losses.Lossy → Link
-lossy_moved s x none = x
-lossy_moved s x (some u) = losses.lossy s x u
+lossy_moved s x None = x
+lossy_moved s x (Some u) = losses.lossy s x u
 
 abbrev pub moved_turns : Setting → Link → Option losses.Lossy → Bool
-moved_turns s x none = false
-moved_turns s x (some u) = losses.turns s x u
+moved_turns s x None = false
+moved_turns s x (Some u) = losses.turns s x u
 
 -- ---- other frames on their way
 
@@ -141,8 +141,8 @@ module _ (s : Setting) (fair : Fair s) (y : System) (x : Link) (h : Stands s y x
 
   kept_turns : (u : Option link.Move) → moved_works s x u ≡ moved_turns s x (kept u)
   unfolding losses.turns
-  kept_turns none = refl
-  kept_turns (some u) = refl
+  kept_turns None = refl
+  kept_turns (Some u) = refl
 
   pub turns_as : (v : Lossy) → turns s y v ≡ moved_turns s x (lossy_move v)
   unfolding turns losses.turns

@@ -1,15 +1,12 @@
 -- The link's frames as Losses reads them: which may not be lost, and what each weighs; and calm moves, which are those of the link.
+use Rattle.std.specs.Prelude.{None, Option, Result, Some}
 use Prim.Native.Nat.{ℕ, zero, suc, ◌+◌, ◌*◌, ◌≤◌, ◌<◌}
 use mathlib.Core.Path.{◌≡◌, refl, ap, ◌∙◌}
 use mathlib.Core.Bool.{Bool, true, false, cond}
-use mathlib.Core.Option.{Option, none, some}
 use mathlib.Core.List.{List, [], ◌∷◌, append-nil}
 use native.Mathlib.Omega.{arith}
 use Rattle.laws.specs.Bools.{by_test}
-use Rattle.transport.specs.declared.response.ResponseRead.{ResponseRead}
 use Rattle.transport.specs.ReadBack.{Three}
-use Rattle.transfer.specs.declared.State.{State}
-use Rattle.transfer.specs.declared.State.TheVariants.{Closed, Open}
 use Rattle.transfer.specs.Sends.{offer_wire, segment_wire, status_wire}
 use Rattle.isolation.specs.Standard.{Cause}
 use Rattle.isolation.specs.OwnFrames.{Body}
@@ -22,6 +19,9 @@ use Rattle.delivery.specs.Losses.{keeps, queues, ending_frames, sent_at, sent_af
 use Rattle.delivery.proofs.Wires.{reads_for, on_offer, on_status, on_segment, cts_wire, eoma_wire, abort_wire, cts_read, eoma_read, abort_read}
 use Rattle.delivery.proofs.Expected.{count}
 use Rattle.delivery.proofs.Stages.{flight}
+use Rattle.frame.specs.declared.refusal.Refusal.{Refusal}
+use Rattle.transfer.specs.declared.Transfer.{Transfer}
+use Rattle.transport.specs.declared.response.ResponseRead.{ResponseRead}
 
 -- ---- frames to the receiver
 
@@ -63,28 +63,28 @@ module _ (s : Setting) (fair : Fair s) where
 
   pub back_cts : (n c : ℕ) → Three n → (fs : List Wire) → back (cts_wire s n c ∷ fs) ≡ 52 + back fs
   unfolding back
-  back_cts n c l fs = ap (λ (r : ResponseRead). weight_back r + back fs) (cts_read s fair n c l)
+  back_cts n c l fs = ap (λ (r : Result ResponseRead Refusal). weight_back r + back fs) (cts_read s fair n c l)
 
   pub back_eoma : (fs : List Wire) → back (eoma_wire s ∷ fs) ≡ 1 + back fs
   unfolding back
-  back_eoma fs = ap (λ (r : ResponseRead). weight_back r + back fs) (eoma_read s fair)
+  back_eoma fs = ap (λ (r : Result ResponseRead Refusal). weight_back r + back fs) (eoma_read s fair)
 
   pub back_abort : (c : Cause) (fs : List Wire) → back (abort_wire s c ∷ fs) ≡ 1 + back fs
   unfolding back
-  back_abort c fs = ap (λ (r : ResponseRead). weight_back r + back fs) (abort_read s fair c)
+  back_abort c fs = ap (λ (r : Result ResponseRead Refusal). weight_back r + back fs) (abort_read s fair c)
 
 -- ---- a calm reading sends nothing
 
-unended_sends : (limit t : ℕ) (x : State) → Unended limit t x → sent_at limit t x ≡ []
-unended_sends limit t Closed u = refl
-unended_sends limit t (Open x) u = ap ending_frames u
+unended_sends : (limit t : ℕ) (x : Option Transfer) → Unended limit t x → sent_at limit t x ≡ []
+unended_sends limit t None u = refl
+unended_sends limit t (Some x) u = ap ending_frames u
 
 judged_sends : (v : Values) (k t : ℕ) (x : Option rules.Open) → judged_at v t x ≡ x → sent_in (ends_at v k t x) ≡ []
 unfolding judged_at ends_at
-judged_sends v k t none e = refl
-judged_sends v k t (some r) e = by_test (is_silent v t r) (λ h. absurd (gone (is_silent v t r) h e)) (λ h. rw h)
+judged_sends v k t None e = refl
+judged_sends v k t (Some r) e = by_test (is_silent v t r) (λ h. absurd (gone (is_silent v t r) h e)) (λ h. rw h)
   where
-    gone : (b : Bool) → b ≡ true → cond b none (some r) ≡ some r → ⊥
+    gone : (b : Bool) → b ≡ true → cond b None (Some r) ≡ Some r → ⊥
     gone true h e = let z : ◌≡◌ {A = ℕ} 0 1 = cc in omega arith
     gone false h e = let z : ◌≡◌ {A = ℕ} 0 1 = cc in omega arith
 

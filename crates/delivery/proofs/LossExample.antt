@@ -1,8 +1,8 @@
 -- Runs with losses: the facts are not about nothing, and the conditions on the losses are needed.
+use Rattle.std.specs.Prelude.{None}
 use Prim.Native.Nat.{ℕ, zero, suc}
 use mathlib.Core.Path.{◌≡◌, refl}
 use mathlib.Core.Bool.{true}
-use mathlib.Core.Option.{none}
 use mathlib.Core.List.{List, [], ◌∷◌}
 use Rattle.frame.specs.Lengths.{frame_length}
 use Rattle.transport.specs.Heads.{id_to}
@@ -10,7 +10,6 @@ use Rattle.transport.specs.Segments.{segment_bytes}
 use Rattle.transport.specs.Responses.{response_bytes, response_of}
 use Rattle.session.specs.Segments.{due_of}
 use Rattle.session.specs.Ends.{elapsed}
-use Rattle.transfer.specs.declared.State.TheVariants.{Closed}
 use Rattle.transfer.specs.Transfers.{segments_of}
 use Rattle.transfer.specs.Decisions.{next_frame, cts_open, eoma_open, hears}
 use Rattle.isolation.specs.Standard.{number_for, reason_for, fd_lengths, is_one_of, in_pgn_form}
@@ -70,7 +69,7 @@ recovers = (
 abbrev six_lost : List Lossy
 six_lost = opening (loss (rounds 1 (loss (rounds 1 (loss (rounds 1 (loss (rounds 1 (loss (rounds 1 (loss (rounds 1 []))))))))))))
 
-gives_up : AtRest (ended (to_one 60) six_lost) × ((ended (to_one 60) six_lost).refused ≡ 21 ∷ []) × ((ended (to_one 60) six_lost).handed ≡ []) × ((ended (to_one 60) six_lost).transfer ≡ Closed) × (losses six_lost ≡ 6)
+gives_up : AtRest (ended (to_one 60) six_lost) × ((ended (to_one 60) six_lost).refused ≡ 21 ∷ []) × ((ended (to_one 60) six_lost).handed ≡ []) × ((ended (to_one 60) six_lost).transfer ≡ None) × (losses six_lost ≡ 6)
 unfolding ramp rounds frame_length id_to segment_bytes response_bytes response_of due_of elapsed segments_of next_frame cts_open eoma_open hears number_for reason_for fd_lengths is_one_of in_pgn_form frame_key control_body data_body taken body_of is_rts sent ending cts hand_over is_taken piece_at joined misdirected sixties bad_numbers least grant opens admitted announced due spent adds out_of_turn segment_open as_announced first_missing missing_run asks lacks status_open rule answered asked body_for at_receiver taken_forward heard at_sender taken_backward step start queues lossy lossy_run is_needed may_lose losses
 gives_up = (record { forward = refl; backward = refl; nothing = tt }, refl, refl, refl, refl)
 
@@ -111,7 +110,7 @@ receiver_first = silences (keeps (read_receiver 750) ∷ keeps take_backward ∷
 abbrev sender_first : List Lossy
 sender_first = silences (keeps (read_sender 2500) ∷ keeps take_forward ∷ [])
 
-silence_ends : AtRest (ended (to_one 60) receiver_first) × ((ended (to_one 60) receiver_first).session ≡ none) × ((ended (to_one 60) receiver_first).transfer ≡ Closed)
-    × AtRest (ended (to_one 60) sender_first) × ((ended (to_one 60) sender_first).session ≡ none) × ((ended (to_one 60) sender_first).transfer ≡ Closed)
+silence_ends : AtRest (ended (to_one 60) receiver_first) × ((ended (to_one 60) receiver_first).session ≡ None) × ((ended (to_one 60) receiver_first).transfer ≡ None)
+    × AtRest (ended (to_one 60) sender_first) × ((ended (to_one 60) sender_first).session ≡ None) × ((ended (to_one 60) sender_first).transfer ≡ None)
 unfolding ramp rounds frame_length id_to segment_bytes response_bytes response_of due_of elapsed segments_of next_frame cts_open eoma_open hears number_for reason_for fd_lengths is_one_of in_pgn_form frame_key control_body data_body taken body_of is_rts sent ending cts hand_over is_taken piece_at joined misdirected sixties bad_numbers least grant opens admitted announced due spent adds out_of_turn segment_open as_announced first_missing missing_run asks lacks status_open rule answered asked body_for at_receiver taken_forward heard at_sender taken_backward step start queues lossy lossy_run is_needed may_lose since is_silent judged_at ends_at abort_open kept_at read
 silence_ends = (record { forward = refl; backward = refl; nothing = tt }, refl, refl, record { forward = refl; backward = refl; nothing = tt }, refl, refl)

@@ -1,10 +1,10 @@
 -- What lies in the queues: for the receiver frames of the key, for the sender responses to it. What the receiver answers to the one is the
 -- other.
+use Rattle.std.specs.Prelude.{Ok, None, Option, Some}
 use Prim.Native.Nat.{ℕ, suc, ◌<◌}
 use mathlib.Core.Path.{◌≡◌, refl, ap, ◌∙◌}
 use mathlib.Core.Logic.{◌⊎◌, inl, inr}
 use mathlib.Core.Bool.{Bool, true, false, cond, not, ◌||◌}
-use mathlib.Core.Option.{Option, none, some}
 use mathlib.Core.List.{List, [], ◌∷◌, ◌++◌}
 use native.Mathlib.Omega.{arith}
 use lib.Dec.{eqb, ltb}
@@ -14,7 +14,7 @@ use mathlib.Mathlib.Data.Bool.Basic.{and_elim_left}
 use Rattle.laws.specs.Bools.{clash, either_way}
 use Rattle.frame.specs.declared.identifier.Identifier.{Identifier}
 use Rattle.frame.specs.declared.judge.Route.{Route}
-use Rattle.frame.specs.declared.judge.Verdict.TheVariants.{Control}
+use Rattle.frame.specs.declared.judge.Content.TheVariants.{Control}
 use Rattle.frame.specs.Identifiers.{identifier_of}
 use Rattle.frame.specs.Judge.{route_of, judged}
 use Rattle.transport.specs.declared.Kind.{Kind}
@@ -44,15 +44,15 @@ pub right_reads : (s : Setting) (f : Wire) → Right s (body_for s f) → (b : B
 unfolding body_for
 right_reads s f h = go (eqb (frame_key f.0 f.1) s.key) refl (body_of s.values.own f.0 f.1) refl h
   where
-    go : (t : Bool) → eqb (frame_key f.0 f.1) s.key ≡ t → (x : Option Body) → body_of s.values.own f.0 f.1 ≡ x → Right s (cond t x none) → (b : Body) × Reads s f b
+    go : (t : Bool) → eqb (frame_key f.0 f.1) s.key ≡ t → (x : Option Body) → body_of s.values.own f.0 f.1 ≡ x → Right s (cond t x None) → (b : Body) × Reads s f b
     go false e x z r = absurd r
-    go true e none z r = absurd r
-    go true e (some b) z r = (b, record { key = eqb-true _ _ e; body = z })
+    go true e None z r = absurd r
+    go true e (Some b) z r = (b, record { key = eqb-true _ _ e; body = z })
 
 -- ---- to the sender: control frames to it, of the key
 
 pub record Responds (s : Setting) (f : Wire) : Type 0 where
-  pub judgement : judged (key_in s).sa f.0 (length f.1) ≡ Control (route_of (identifier_of f.0))
+  pub judgement : judged (key_in s).sa f.0 (length f.1) ≡ Ok (Control (route_of (identifier_of f.0)))
   pub key : session_key_of (route_of (identifier_of f.0)) f.1 ≡ key_in s
 
 abbrev pub Responses : Setting → List Wire → Type 0
@@ -77,8 +77,8 @@ abbrev pub OneIf : Setting → Kind → Type 0
 OneIf s κ = is_rts κ ≡ true → ToOne s
 
 abbrev pub Aimed : Setting → Option rules.Open → Type 0
-Aimed s none = Unit {0}
-Aimed s (some r) = OneIf s r.told.kind
+Aimed s None = Unit {0}
+Aimed s (Some r) = OneIf s r.told.kind
 
 module _ (s : Setting) (fair : Fair s) where
   module _ (one : ToOne s) where
@@ -86,10 +86,10 @@ module _ (s : Setting) (fair : Fair s) where
     responds n u rest l =
         let id : ℕ = to_originator (key_in s) in
         let fits = key_fits s fair in
-        let j : judged (key_in s).sa id (suc (length rest)) ≡ Control (record { sa = (key_in s).da; da = (key_in s).sa }) =
+        let j : judged (key_in s).sa id (suc (length rest)) ≡ Ok (Control (record { sa = (key_in s).da; da = (key_in s).sa })) =
         ap (λ (i : ℕ). judged (key_in s).sa id (suc i)) l ∙ response_judged s fair one in
         record {
-          judgement = j ∙ ap (λ (μ : Route). Control μ) (routed_way (key_in s).sa id (suc (length rest)) _ j);
+          judgement = j ∙ ap (λ (μ : Route). Ok (Control μ)) (routed_way (key_in s).sa id (suc (length rest)) _ j);
           key = ap (λ (i : Identifier). session_key_of (route_of i) (head n (key_in s) ∷ rest)) (id_read_back 77 (key_in s).sa (key_in s).da (omega arith) fits.sa fits.da)
               ∙ key_read_back (key_in s) fits n u rest 77;
         }
@@ -107,7 +107,7 @@ module _ (s : Setting) (fair : Fair s) where
     abort_responds c pgn = (responds 15 (omega arith) _ refl, tt)
 
   -- an answer that sends nothing
-  quiet : (n : ℕ) (σ : Says) → handed_for s.key σ ≡ hand_overs σ → Answers s (record { number = n; says = σ; sends = none })
+  quiet : (n : ℕ) (σ : Says) → handed_for s.key σ ≡ hand_overs σ → Answers s (record { number = n; says = σ; sends = None })
   quiet n σ e = record { sends = tt; hands = e }
 
   refuses : (n : ℕ) → Answers s (refuse n)
@@ -154,8 +154,8 @@ module _ (s : Setting) (fair : Fair s) where
 
     admitted_fine : OneIf s a.kind → (x : Option rules.Open) → Fine (admitted s.key last eight x a)
     unfolding admitted
-    admitted_fine one none = either_way Fine eight (λ e. rejects a one eight_open) (λ e. opens_fine one)
-    admitted_fine one (some r) = either_way Fine (starts_anew a r) (λ e. opens_fine one) (λ e. rejects a one key_open)
+    admitted_fine one None = either_way Fine eight (λ e. rejects a one eight_open) (λ e. opens_fine one)
+    admitted_fine one (Some r) = either_way Fine (starts_anew a r) (λ e. opens_fine one) (λ e. rejects a one key_open)
 
     announced_fine : (x : Option rules.Open) → Fine (announced s.values.own s.key last eight x a)
     unfolding announced
@@ -204,17 +204,17 @@ module _ (s : Setting) (fair : Fair s) where
   pub rule_answers : (last : ℕ) (eight : Bool) (x : Option rules.Open) → Aimed s x → (b : Body) → Answers s (rule s.values s.key last eight x b).1
   unfolding rule
   rule_answers last eight x h (announce a) = announced_fine last eight a x
-  rule_answers last eight none h (segment format n d) = either_way Fine (not (eqb format 0)) (λ e. refuses 17) (λ e. refuses 16)
-  rule_answers last eight none h (status st) = refuses 16
-  rule_answers last eight none h (abort pgn) = refuses 16
-  rule_answers last eight (some r) h (segment format n d) = either_way Fine (not (eqb format 0)) (λ e. refuses 17) (λ e. segment_fine last r h n d)
-  rule_answers last eight (some r) h (status st) = status_fine last r h st
-  rule_answers last eight (some r) h (abort pgn) = abort_fine last r h pgn
+  rule_answers last eight None h (segment format n d) = either_way Fine (not (eqb format 0)) (λ e. refuses 17) (λ e. refuses 16)
+  rule_answers last eight None h (status st) = refuses 16
+  rule_answers last eight None h (abort pgn) = refuses 16
+  rule_answers last eight (Some r) h (segment format n d) = either_way Fine (not (eqb format 0)) (λ e. refuses 17) (λ e. segment_fine last r h n d)
+  rule_answers last eight (Some r) h (status st) = status_fine last r h st
+  rule_answers last eight (Some r) h (abort pgn) = abort_fine last r h pgn
 
   pub ends_respond : (t : ℕ) (x : Option rules.Open) → Aimed s x → Responses s (sent_in (ends_at s.values s.key t x))
   unfolding ends_at
-  ends_respond t none h = tt
-  ends_respond t (some r) h =
+  ends_respond t None h = tt
+  ends_respond t (Some r) h =
       either_way (λ l. Responses s (sent_in l)) (is_silent s.values t r)
       (λ e. responses_join s (queued (ending s.key r.told silent).sends) [] (ends r.told h silent).sends tt)
       (λ e. tt)

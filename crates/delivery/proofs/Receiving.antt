@@ -1,8 +1,8 @@
 -- What a call at the receiver does to the session of one key, whatever else the record holds: by the simulation that `isolation` proves.
+use Rattle.std.specs.Prelude.{None, Option, Some, ℕ, is_some}
 use Prim.Native.Nat.{ℕ}
 use mathlib.Core.Path.{◌≡◌, refl, sym, ap, ◌∙◌, subst}
 use mathlib.Core.Bool.{Bool, true, false, cond, not, ◌&&◌}
-use mathlib.Core.Option.{Option, none, some}
 use mathlib.Core.List.{List, [], ◌∷◌}
 use native.Mathlib.Omega.{arith}
 use lib.Dec.{eqb, leb}
@@ -10,12 +10,8 @@ use borrow.Author.Tests.{eqb-true, eq-eqb}
 use Rattle.laws.specs.Bools.{clash, not_both, neither_left, cond_true}
 use Rattle.laws.specs.Choice.{each_of}
 use Rattle.transport.specs.Kinds as kinds
-use Rattle.session.specs.declared.State.{State}
-use Rattle.session.specs.declared.State.TheVariants as is
 use Rattle.session.specs.InBounds.{sound_of}
-use Rattle.slots.specs.declared.Found.{Found}
-use Rattle.slots.specs.declared.Found.TheVariants.{At, Nothing}
-use Rattle.slots.specs.Slots.{key_place, first_free, is_at}
+use Rattle.slots.specs.Slots.{key_place, first_free}
 use Rattle.slots.specs.Searches.{lowest_some}
 use Rattle.answer.specs.declared.Answer.{Answer}
 use Rattle.answer.specs.declared.Answer.TheVariants as answer
@@ -35,6 +31,7 @@ use Rattle.isolation.proofs.Opened.{any}
 use Rattle.isolation.proofs.Many.{Sim, open_any, room}
 use Rattle.isolation.proofs.Run.{Keeps, keeps}
 use Rattle.delivery.specs.System.{handed_for, answer_of}
+use Rattle.session.specs.declared.Session.{Session}
 
 -- the key's session after a call, with a world of rules that explains the record and the store again
 pub record Becomes (v : Values) (k t : ℕ) (x : Option Open) (r : Receiver) (m : List ℕ) : Type 0 where
@@ -44,34 +41,34 @@ pub record Becomes (v : Values) (k t : ℕ) (x : Option Open) (r : Receiver) (m 
   pub last : r.last ≡ t
 
 -- an RTS session is of a key to the receiver alone
-ses_aimed : (v : Values) (k : ℕ) (x : State) (p : List ℕ) (ρ : Open) → Ses v k x p (some ρ) → is_rts ρ.told.kind ≡ true → (key_at k).da.0 ≡ v.own.0
-ses_aimed v k is.Closed p ρ h e = absurd h
-ses_aimed v k (is.Open s) p ρ (x, same, rel) e =
+ses_aimed : (v : Values) (k : ℕ) (x : Option Session) (p : List ℕ) (ρ : Open) → Ses v k x p (Some ρ) → is_rts ρ.told.kind ≡ true → (key_at k).da.0 ≡ v.own.0
+ses_aimed v k None p ρ h e = absurd h
+ses_aimed v k (Some s) p ρ (x, same, rel) e =
     let t = each_of (leb (key_at k).sa.0 253 ∷ not (eqb (key_at k).sa.0 v.own.0) ∷ eqb (key_at k).da.0
     (cond (kinds.is_rts ρ.told.kind) v.own.0 255) ∷ leb (key_at k).session.0 15 ∷ []) (sound_of v.own (record_of k ρ x) rel.fine).key in
     eqb-true _ _ t.1.1.0 ∙ cond_true (kinds.is_rts ρ.told.kind) _ _ (sym (kind_same ρ.told.kind) ∙ e)
 
 module _ (v : Values) (r : Receiver) (m : List ℕ) (w : World) (sim : Sim v r m w) (k : ℕ) where
   -- the key's session: none, or one that a slot has
-  in_slot : (P : Option Open → Type 0) → P none → ((i : ℕ) → holds k (at r.slots i) ≡ true → P (w k).session) → P (w k).session
+  in_slot : (P : Option Open → Type 0) → P None → ((i : ℕ) → holds k (at r.slots i) ≡ true → P (w k).session) → P (w k).session
   in_slot P n f = go (key_place (key_at k) r.slots) refl
     where
-      go : (g : Found) → key_place (key_at k) r.slots ≡ g → P (w k).session
-      go Nothing e = subst P (sym (sim.shut k (find_none k r.slots e))) n
-      go (At i) e = f i (find_some k r.slots i e).0
+      go : (g : Option ℕ) → key_place (key_at k) r.slots ≡ g → P (w k).session
+      go None e = subst P (sym (sim.shut k (find_none k r.slots e))) n
+      go (Some i) e = f i (find_some k r.slots i e).0
 
-  pub session_aimed : (ρ : Open) → (w k).session ≡ some ρ → is_rts ρ.told.kind ≡ true → (key_at k).da.0 ≡ v.own.0
-  session_aimed ρ = in_slot (λ y. y ≡ some ρ → is_rts ρ.told.kind ≡ true → (key_at k).da.0 ≡ v.own.0)
+  pub session_aimed : (ρ : Open) → (w k).session ≡ Some ρ → is_rts ρ.told.kind ≡ true → (key_at k).da.0 ≡ v.own.0
+  session_aimed ρ = in_slot (λ y. y ≡ Some ρ → is_rts ρ.told.kind ≡ true → (key_at k).da.0 ≡ v.own.0)
       (λ z. absurd (let c : ◌≡◌ {A = ℕ} 0 1 = cc in omega arith))
       (λ i h z. ses_aimed v k (at r.slots i) (part i m) ρ (subst (Ses v k (at r.slots i) (part i m)) z (sim.held i k h)))
 
   -- a slot is free: not eight other keys are open
-  not_eight : is_at (first_free r.slots) ≡ true → eight_others w k ≡ false
+  not_eight : is_some (first_free r.slots) ≡ true → eight_others w k ≡ false
   not_eight e = go (first_free r.slots) refl e
     where
-      go : (f : Found) → first_free r.slots ≡ f → is_at f ≡ true → eight_others w k ≡ false
-      go Nothing e h = absurd (clash false h refl)
-      go (At i) e h = let s = lowest_some r.slots i e in room v r m w sim k i s.1 s.0
+      go : (f : Option ℕ) → first_free r.slots ≡ f → is_some f ≡ true → eight_others w k ≡ false
+      go None e h = absurd (clash false h refl)
+      go (Some i) e h = let s = lowest_some r.slots i e in room v r m w sim k i s.1 s.0
 
   module _ (id : ℕ) (d : List ℕ) where
     kept : Keeps v r m w (lent (frame id d))
@@ -79,7 +76,7 @@ module _ (v : Values) (r : Receiver) (m : List ℕ) (w : World) (sim : Sim v r m
 
     -- ---- a frame of the key
 
-    module _ (b : Body) (mine : frame_key id d ≡ k) (body : body_of v.own id d ≡ some b) (free : is_announcement b ≡ true → is_at (first_free r.slots) ≡ true) where
+    module _ (b : Body) (mine : frame_key id d ≡ k) (body : body_of v.own id d ≡ Some b) (free : is_announcement b ≡ true → is_some (first_free r.slots) ≡ true) where
       told_no : (is_announcement b && eight_others w k) ≡ false
       told_no = go (is_announcement b) refl
         where
@@ -118,8 +115,8 @@ module _ (v : Values) (r : Receiver) (m : List ℕ) (w : World) (sim : Sim v r m
       unseen = go (body_of v.own id d) other
         where
           go : (x : Option Body) → (is_body x && eqb (frame_key id d) k) ≡ false → sees_body w k (frame_key id d) x ≡ []
-          go none e = refl
-          go (some b) e = rw e
+          go None e = refl
+          go (Some b) e = rw e
 
       pub aside_becomes : Becomes v k r.last (w k).session (frame_all r id d m).0.next (frame_all r id d m).1
       unfolding record_after store_after world_after after
@@ -188,13 +185,13 @@ module _ (v : Values) (r : Receiver) (m : List ℕ) (w : World) (sim : Sim v r m
         before : is_open (w k).session ≡ open_in k r.slots
         before = open_any v r m w sim k
 
-        stays : (ρ : Open) (b : Bool) → not (is_open (cond b none (some ρ))) ≡ false → cond b none (some ρ) ≡ some ρ
+        stays : (ρ : Open) (b : Bool) → not (is_open (cond b None (Some ρ))) ≡ false → cond b None (Some ρ) ≡ Some ρ
         stays ρ true z = absurd (clash true refl z)
         stays ρ false z = refl
 
         go : (x : Option Open) → (w k).session ≡ x → judged_at v t x ≡ x
-        go none h = refl
-        go (some ρ) h =
+        go None h = refl
+        go (Some ρ) h =
             let a : open_in k r.slots ≡ true = sym before ∙ ap is_open h in
             let b : not (open_in k (reading_step r t m).next.slots) ≡ false = not_both (open_in k r.slots) _ e a in
             stays ρ (is_silent v t ρ) (ap not (ap (λ (y : Option Open). is_open (judged_at v t y)) (sym h) ∙ after_it) ∙ b)

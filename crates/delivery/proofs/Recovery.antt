@@ -1,9 +1,9 @@
 -- An RTS transfer that loses data: its stages, every borne move from stage to stage, and what then holds.
+use Rattle.std.specs.Prelude.{None, Option, Some}
 use Prim.Native.Nat.{ℕ, zero, suc, ◌+◌, ◌/◌, ◌%◌, ◌≤◌, ◌<◌}
 use mathlib.Core.Path.{◌≡◌, refl, subst}
 use mathlib.Core.Logic.{◌⊎◌, inl, inr}
 use mathlib.Core.Bool.{Bool, true, false, cond, or-false}
-use mathlib.Core.Option.{Option, none, some}
 use mathlib.Core.List.{List, [], ◌∷◌, append-nil}
 use native.Mathlib.Omega.{arith}
 use native.Mathlib.Decide.{dec_lt}
@@ -12,8 +12,6 @@ use Rattle.laws.specs.Bools.{by_test}
 use Rattle.progress.specs.declared.wait.Wait.TheVariants.{First, Second}
 use Rattle.transport.specs.declared.Kind.{Kind}
 use Rattle.transport.specs.declared.Kind.TheVariants.{Rts}
-use Rattle.transfer.specs.declared.State.{State}
-use Rattle.transfer.specs.declared.State.TheVariants.{Closed}
 use Rattle.transfer.specs.Sends.{offer_wire, segment_wire}
 use Rattle.isolation.specs.Standard.{requests_spent}
 use Rattle.isolation.specs.Replies.{Wire, Says, took, sent, cts, plain}
@@ -32,6 +30,7 @@ use Rattle.delivery.proofs.Requests.{sess, piece_no, Good, Last, last_or_not, Fr
 use Rattle.delivery.proofs.Frames.{offer_kept, status_kept, forth_offer, forth_segment, forth_status, forth_flight, back_cts, back_eoma, back_abort, calm_sender, calm_receiver, calm_backward}
 use Rattle.delivery.proofs.Broadcast.{lost_by, lost_by_lem, sender_reads, receiver_reads, answers_closed, recovers_as, recovery_bam}
 use Rattle.delivery.proofs.Waiting.{waiting, again, busy, announced_waits, again_more, busy_waits, waits, gives_next, gives_last, hears_grant, hears_well, hears_abort, send_none, send_rest, send_last, send_less}
+use Rattle.transfer.specs.declared.Transfer.{Transfer}
 
 -- ---- the stages; xs are in, r requests have been made
 
@@ -50,7 +49,7 @@ data Stage : Type 0 where
   aborted : Stage
 
 record Shape : Type 0 where
-  transfer : State
+  transfer : Option Transfer
   forward : List Wire
   backward : List Wire
   session : Option rules.Open
@@ -58,19 +57,19 @@ record Shape : Type 0 where
   refused : List ℕ
   well : Bool
 
-abbrev shape : State → List Wire → List Wire → Option rules.Open → List Says → List ℕ → Bool → Shape
+abbrev shape : Option Transfer → List Wire → List Wire → Option rules.Open → List Says → List ℕ → Bool → Shape
 shape t fs bs x h n w = record { transfer = t; forward = fs; backward = bs; session = x; handed = h; refused = n; well = w }
 
 -- p and q: the marks
 unfoldable shape_at : Setting → ℕ → Silence → Stage → Shape
-shape_at s p q announcing = shape (waiting s p 0 (again 0)) (offer_wire (offer s) ∷ []) [] none [] [] false
-shape_at s p q (granting a c r xs i) = shape (waiting s p i (again r)) [] (cts_wire s (a + 1) c ∷ []) (some (sess s q (a + c) r xs)) [] [] false
-shape_at s p q (moving g r xs j n) = shape (busy s p r (j + n) g) (flight s j n false) [] (some (sess s q g r xs)) [] [] false
-shape_at s p q (closing g r xs j n) = shape (waiting s p g true) (flight s j n true) [] (some (sess s q g r xs)) [] [] false
-shape_at s p q (acknowledging i) = shape (waiting s p i true) [] (eoma_wire s ∷ []) none (handed_by Rts s ∷ []) [] false
-shape_at s p q (aborting i) = shape (waiting s p i true) [] (abort_wire s requests_spent ∷ []) none [] (21 ∷ []) false
-shape_at s p q done = shape Closed [] [] none (handed_by Rts s ∷ []) [] true
-shape_at s p q aborted = shape Closed [] [] none [] (21 ∷ []) false
+shape_at s p q announcing = shape (waiting s p 0 (again 0)) (offer_wire (offer s) ∷ []) [] None [] [] false
+shape_at s p q (granting a c r xs i) = shape (waiting s p i (again r)) [] (cts_wire s (a + 1) c ∷ []) (Some (sess s q (a + c) r xs)) [] [] false
+shape_at s p q (moving g r xs j n) = shape (busy s p r (j + n) g) (flight s j n false) [] (Some (sess s q g r xs)) [] [] false
+shape_at s p q (closing g r xs j n) = shape (waiting s p g true) (flight s j n true) [] (Some (sess s q g r xs)) [] [] false
+shape_at s p q (acknowledging i) = shape (waiting s p i true) [] (eoma_wire s ∷ []) None (handed_by Rts s ∷ []) [] false
+shape_at s p q (aborting i) = shape (waiting s p i true) [] (abort_wire s requests_spent ∷ []) None [] (21 ∷ []) false
+shape_at s p q done = shape None [] [] None (handed_by Rts s ∷ []) [] true
+shape_at s p q aborted = shape None [] [] None [] (21 ∷ []) false
 
 abbrev link_at : Setting → Stage → Marks → Link
 link_at s stage m = record {
@@ -219,7 +218,7 @@ module _ (s : Setting) (fair : Fair s) (goes : Goes Rts s.key) (k : ℕ) (m : Ma
   takes_announcement = go (opens_first s fair goes m.receivers_last)
     where
       go : (c : ℕ) × (1 ≤ c) × (c ≤ 16) × (c ≤ count s)
-          × (received s none m.receivers_last (offer_wire (offer s)) ≡ (some (sess s (from m.receivers_last First) c 0 []), cts s.key 1 c s.pgn))
+          × (received s None m.receivers_last (offer_wire (offer s)) ≡ (Some (sess s (from m.receivers_last First) c 0 []), cts s.key 1 c s.pgn))
           → Kept s k take_forward announcing m
       go (c, a, b, d, o) =
           let z : 0 + c ≡ c = omega arith in
@@ -238,8 +237,8 @@ module _ (s : Setting) (fair : Fair s) (goes : Goes Rts s.key) (k : ℕ) (m : Ma
 
     abbrev Taken : Type 0
     Taken =
-        received s (some (sess s m.receivers_mark g r xs)) m.receivers_last (segment_wire (key_in s) s.message (j + 1))
-        ≡ (some (sess s (from m.receivers_last Second) g r more), plain (took (key_in s) (j + 1)))
+        received s (Some (sess s m.receivers_mark g r xs)) m.receivers_last (segment_wire (key_in s) s.message (j + 1))
+        ≡ (Some (sess s (from m.receivers_last Second) g r more), plain (took (key_in s) (j + 1)))
 
     good_more : j < count s → is_taken (j + 1) xs ≡ false → Good s xs → Good s more
     good_more l u h = (omega arith, omega arith, u, refl, h)
@@ -288,8 +287,8 @@ module _ (s : Setting) (fair : Fair s) (goes : Goes Rts s.key) (k : ℕ) (m : Ma
 
     -- a segment that uses the grant up: it was the last on its way
     next_grant : (n : ℕ) → Moving s k g r xs j (suc n) → is_taken (j + 1) xs ≡ false → j + 1 ≡ g → r ≡ 0 → (c : ℕ) → 1 ≤ c → c ≤ 16 → j + 1 + c ≤ count s
-        → received s (some (sess s m.receivers_mark g r xs)) m.receivers_last (segment_wire (key_in s) s.message (j + 1))
-        ≡ (some (sess s (from m.receivers_last First) (j + 1 + c) r more), cts s.key (j + 1 + 1) c s.pgn)
+        → received s (Some (sess s m.receivers_mark g r xs)) m.receivers_last (segment_wire (key_in s) s.message (j + 1))
+        ≡ (Some (sess s (from m.receivers_last First) (j + 1 + c) r more), cts s.key (j + 1 + 1) c s.pgn)
         → Kept s k take_forward (moving g r xs j (suc n)) m
     unfolding step works taken_forward at_receiver shape_at remaining flight cts sent
     next_grant (suc n) st u a z c b v l d = absurd (omega (arith, st.within))
@@ -455,7 +454,7 @@ module _ (s : Setting) (fair : Fair s) (goes : Goes Rts s.key) (k : ℕ) (m : Ma
 
   module _ (g r : ℕ) (xs : List Piece) (j n : ℕ) where
     loses_moving : Moving s k g r xs j (suc n)
-        → MayLoseOldest s (some (sess s m.receivers_mark g r xs)) (segment_wire (key_in s) s.message (j + 1) ∷ flight s (j + 1) n false)
+        → MayLoseOldest s (Some (sess s m.receivers_mark g r xs)) (segment_wire (key_in s) s.message (j + 1) ∷ flight s (j + 1) n false)
         → Step s k loses_forward (moving g r xs j (suc n)) m
     unfolding lossy turns queues shape_at remaining flight
     loses_moving st h =
@@ -496,11 +495,11 @@ module _ (s : Setting) (fair : Fair s) (goes : Goes Rts s.key) (k : ℕ) (m : Ma
 
   loses : (stage : Stage) → Stands s k stage → BorneAt s (link_at s stage m) loses_forward → Step s k loses_forward stage m
   unfolding shape_at flight
-  loses announcing st h = absurd (offer_kept s fair none [] h)
+  loses announcing st h = absurd (offer_kept s fair None [] h)
   loses (granting a c r xs i) st h = absurd h
   loses (moving g r xs j zero) st h = absurd h
   loses (moving g r xs j (suc n)) st h = loses_moving g r xs j n st h
-  loses (closing g r xs j zero) st h = absurd (status_kept s fair (some (sess s m.receivers_mark g r xs)) [] h)
+  loses (closing g r xs j zero) st h = absurd (status_kept s fair (Some (sess s m.receivers_mark g r xs)) [] h)
   loses (closing g r xs j (suc n)) st h = loses_closing g r xs j n st
   loses (acknowledging i) st h = absurd h
   loses (aborting i) st h = absurd h
@@ -530,7 +529,7 @@ module _ (s : Setting) (fair : Fair s) (goes : Goes Rts s.key) (k : ℕ) (m : Ma
   -- ---- the facts at a stage
 
   rest_at_lem : (stage : Stage) → Stands s k stage → AtRest (link_at s stage m)
-      → ((link_at s stage m).session ≡ none) × ((link_at s stage m).transfer ≡ Closed) × Outcome Rts s k (link_at s stage m)
+      → ((link_at s stage m).session ≡ None) × ((link_at s stage m).transfer ≡ None) × Outcome Rts s k (link_at s stage m)
   unfolding shape_at flight
   rest_at_lem announcing st h = absurd (full _ _ h.forward)
   rest_at_lem (granting a c r xs i) st h = absurd (full _ _ h.backward)

@@ -1,10 +1,10 @@
 -- What an RTS session does with its segments and its EOMS, whatever is in. It and Expected know the receiver's rules; the rest sees `sess`
 -- shut.
+use Rattle.std.specs.Prelude.{None, Some}
 use Prim.Native.Nat.{ℕ, zero, suc, ◌+◌, ◌*◌, ◌-◌, ◌%◌, ◌≤◌, ◌<◌}
 use mathlib.Core.Path.{◌≡◌, refl, sym, ap, ◌∙◌}
 use mathlib.Core.Logic.{◌⊎◌, inl, inr}
 use mathlib.Core.Bool.{Bool, true, false, cond, not, and-false, false≢true}
-use mathlib.Core.Option.{none, some}
 use mathlib.Core.List.{List, [], ◌∷◌}
 use native.Mathlib.Omega.{arith}
 use native.Mathlib.Decide.{ℕ_discrete, dec_lt}
@@ -83,7 +83,7 @@ module _ (s : Setting) (fair : Fair s) where
 
   pub opens_first : Goes Rts s.key → (last : ℕ)
       → (c : ℕ) × (1 ≤ c) × (c ≤ 16) × (c ≤ count s)
-      × (received s none last (offer_wire (offer s)) ≡ (some (sess s (from last First) c 0 []), cts s.key 1 c s.pgn))
+      × (received s None last (offer_wire (offer s)) ≡ (Some (sess s (from last First) c 0 []), cts s.key 1 c s.pgn))
   unfolding opens sess announcement_for is_rts
   opens_first goes last =
       let g = granted_of (count s) (some_segments s fair) (omega arith) in
@@ -93,21 +93,21 @@ module _ (s : Setting) (fair : Fair s) where
 
 pub data SegmentIn (s : Setting) (last : ℕ) (q : Silence) (g r : ℕ) (xs : List Piece) (j : ℕ) : Type 0 where
   quiet : (j + 1 < g) ⊎ Last s r g
-      → received s (some (sess s q g r xs)) last (segment_wire (key_in s) s.message (j + 1))
-      ≡ (some (sess s (from last Second) g r (piece_no s (j + 1) ∷ xs)), plain (took (key_in s) (j + 1)))
+      → received s (Some (sess s q g r xs)) last (segment_wire (key_in s) s.message (j + 1))
+      ≡ (Some (sess s (from last Second) g r (piece_no s (j + 1) ∷ xs)), plain (took (key_in s) (j + 1)))
       → SegmentIn s last q g r xs j
   grants : j + 1 ≡ g → r ≡ 0 → (c : ℕ) → 1 ≤ c → c ≤ 16 → j + 1 + c ≤ count s
-      → received s (some (sess s q g r xs)) last (segment_wire (key_in s) s.message (j + 1))
-      ≡ (some (sess s (from last First) (j + 1 + c) r (piece_no s (j + 1) ∷ xs)), cts s.key (j + 1 + 1) c s.pgn)
+      → received s (Some (sess s q g r xs)) last (segment_wire (key_in s) s.message (j + 1))
+      ≡ (Some (sess s (from last First) (j + 1 + c) r (piece_no s (j + 1) ∷ xs)), cts s.key (j + 1 + 1) c s.pgn)
       → SegmentIn s last q g r xs j
 
 module _ (s : Setting) (fair : Fair s) (last : ℕ) (q : Silence) (g : ℕ) (xs : List Piece) (j : ℕ) (l : j < count s) where
   added : (r : ℕ) → is_taken (j + 1) xs ≡ false
-      → received s (some (sess s q g r xs)) last (segment_wire (key_in s) s.message (j + 1))
+      → received s (Some (sess s q g r xs)) last (segment_wire (key_in s) s.message (j + 1))
       ≡ adds s.key last (sess s q g r xs) (j + 1) (data_at (frame_of s fair (j + 1)))
   unfolding rule segment_open out_of_turn sess announcement_for is_rts
   added r u =
-      ap (by_body s (some (sess s q g r xs)) last) (reads_for s _ _ (on_segment s fair (j + 1) (omega arith) (omega arith)))
+      ap (by_body s (Some (sess s q g r xs)) last) (reads_for s _ _ (on_segment s fair (j + 1) (omega arith) (omega arith)))
       ∙ rw (
         ne_eqb (j + 1) 0 (λ e. omega arith),
         u,
@@ -122,7 +122,7 @@ module _ (s : Setting) (fair : Fair s) (last : ℕ) (q : Silence) (g : ℕ) (xs 
   -- no CTS
   adds_quietly : (r : ℕ) → spent (sess s q g r xs) (j + 1) ≡ false
       → adds s.key last (sess s q g r xs) (j + 1) (data_at (frame_of s fair (j + 1)))
-      ≡ (some (sess s (from last Second) g r (piece_no s (j + 1) ∷ xs)), plain (took (key_in s) (j + 1)))
+      ≡ (Some (sess s (from last Second) g r (piece_no s (j + 1) ∷ xs)), plain (took (key_in s) (j + 1)))
   unfolding sess announcement_for adds
   adds_quietly r e = rw (e, piece_here)
 
@@ -152,31 +152,31 @@ module _ (s : Setting) (fair : Fair s) (last : ℕ) (q : Silence) (g : ℕ) (xs 
 
 -- the session's end by spent requests, and its Abort
 abbrev pub given_up : Setting → Reply
-given_up s = record { number = 21; says = ended (key_in s) Rts s.pgn; sends = some (abort_wire s requests_spent) }
+given_up s = record { number = 21; says = ended (key_in s) Rts s.pgn; sends = Some (abort_wire s requests_spent) }
 
 pub data EomsIn (s : Setting) (last : ℕ) (q : Silence) (g r : ℕ) (xs : List Piece) : Type 0 where
-  whole_in : received s (some (sess s q g r xs)) last (status_wire (offer s)) ≡ (none, record { number = 0; says = handed_by Rts s; sends = acknowledged Rts s })
+  whole_in : received s (Some (sess s q g r xs)) last (status_wire (offer s)) ≡ (None, record { number = 0; says = handed_by Rts s; sends = acknowledged Rts s })
       → EomsIn s last q g r xs
-  given_up_lem : Spent s (some (sess s q g r xs)) → received s (some (sess s q g r xs)) last (status_wire (offer s)) ≡ (none, given_up s)
+  given_up_lem : Spent s (Some (sess s q g r xs)) → received s (Some (sess s q g r xs)) last (status_wire (offer s)) ≡ (None, given_up s)
       → EomsIn s last q g r xs
   asks_for_lem : r < 5 → (a c : ℕ) → 1 ≤ c → c ≤ 16 → a + c ≤ count s → Fresh (a + c) (r + 1) xs a
-      → received s (some (sess s q g r xs)) last (status_wire (offer s))
-      ≡ (some (sess s (from last First) (a + c) (r + 1) xs), cts s.key (a + 1) c s.pgn)
+      → received s (Some (sess s q g r xs)) last (status_wire (offer s))
+      ≡ (Some (sess s (from last First) (a + c) (r + 1) xs), cts s.key (a + 1) c s.pgn)
       → EomsIn s last q g r xs
 
 module _ (s : Setting) (fair : Fair s) (last : ℕ) (q : Silence) (g r : ℕ) (xs : List Piece) where
   -- it is as announced
-  by_eoms : received s (some (sess s q g r xs)) last (status_wire (offer s))
-      ≡ cond (eqb (length xs) (count s)) (none, hand_over s.key (announcement_for Rts s) (joined (count s) xs)) (lacks s.key last (sess s q g r xs))
+  by_eoms : received s (Some (sess s q g r xs)) last (status_wire (offer s))
+      ≡ cond (eqb (length xs) (count s)) (None, hand_over s.key (announcement_for Rts s) (joined (count s) xs)) (lacks s.key last (sess s q g r xs))
   unfolding rule status_open as_announced sess announcement_for
   by_eoms =
-      ap (by_body s (some (sess s q g r xs)) last) (reads_for s _ _ (on_status s fair))
+      ap (by_body s (Some (sess s q g r xs)) last) (reads_for s _ _ (on_status s fair))
       ∙ rw (eq-eqb (count s) (count s) refl, eq-eqb (length s.message) (length s.message) refl, eq-eqb s.pgn s.pgn refl)
 
   -- segments a + 1 to a + c are asked for
   asks_of : (a : ℕ) → gap_from (count s) xs ≡ a + 1 → asks s.key last (sess s q g r xs)
       ≡ (
-        some (sess s (from last First) (a + grant_of (count s % 256) (gap_length (count s) xs)) (r + 1) xs),
+        Some (sess s (from last First) (a + grant_of (count s % 256) (gap_length (count s) xs)) (r + 1) xs),
         cts s.key (a + 1) (grant_of (count s % 256) (gap_length (count s) xs)) s.pgn,
       )
   unfolding asks sess announcement_for
@@ -210,7 +210,7 @@ module _ (s : Setting) (fair : Fair s) (last : ℕ) (q : Silence) (g r : ℕ) (x
 
       go : Dec (length xs ≡ count s) → Dec (r < 5) → EomsIn s last q g r xs
       go (yes e) d =
-          whole_in (by_eoms ∙ rw (eq-eqb (length xs) (count s) e, joined_here e) (ap (λ (x : Reply). (none, x)) (hands_over_lem Rts s)))
+          whole_in (by_eoms ∙ rw (eq-eqb (length xs) (count s) e, joined_here e) (ap (λ (x : Reply). (None, x)) (hands_over_lem Rts s)))
       go (no n) (yes l) =
           let h : 1 ≤ gap_from (count s) xs = (first_gap (length s.message) (count s) s.message xs good n).from in
           asks_it l n good (gap_from (count s) xs - 1) (omega arith)
@@ -221,19 +221,19 @@ module _ (s : Setting) (fair : Fair s) (last : ℕ) (q : Silence) (g r : ℕ) (x
 -- ---- a segment that may be lost: more of its grant follow, or an EOMS does
 
 module _ (s : Setting) (fair : Fair s) (q : Silence) (g r : ℕ) (xs : List Piece) (j : ℕ) (l : j < g) (b : g ≤ count s) where
-  segment_body : body_for s (segment_wire (key_in s) s.message (j + 1)) ≡ some (segment 0 (j + 1) (data_at (frame_of s fair (j + 1))))
+  segment_body : body_for s (segment_wire (key_in s) s.message (j + 1)) ≡ Some (segment 0 (j + 1) (data_at (frame_of s fair (j + 1))))
   segment_body = reads_for s _ _ (on_segment s fair (j + 1) (omega arith) (omega arith))
 
   -- the last of a grant that is not the message's last
-  needed : j + 1 ≡ g → (j + 1 ≡ count s → ⊥) → is_needed s (some (sess s q g 0 xs)) (j + 1) ≡ true
+  needed : j + 1 ≡ g → (j + 1 ≡ count s → ⊥) → is_needed s (Some (sess s q g 0 xs)) (j + 1) ≡ true
   unfolding is_needed sess announcement_for is_rts
   needed e f = both (eqb (j + 1) g) (not (eqb (j + 1) (count s))) (eq-eqb (j + 1) g e) (ap not (ne_eqb (j + 1) (count s) f))
 
-  pub lost_segment : (fs : List Wire) → MayLoseOldest s (some (sess s q g r xs)) (segment_wire (key_in s) s.message (j + 1) ∷ fs) → (j + 1 < g) ⊎ Last s r g
+  pub lost_segment : (fs : List Wire) → MayLoseOldest s (Some (sess s q g r xs)) (segment_wire (key_in s) s.message (j + 1) ∷ fs) → (j + 1 < g) ⊎ Last s r g
   unfolding may_lose is_needed sess announcement_for is_rts
   lost_segment fs h = go r (ℕ_discrete (j + 1) g) (ℕ_discrete (j + 1) (count s)) (rw segment_body at h)
     where
-      go : (r : ℕ) → Dec (j + 1 ≡ g) → Dec (j + 1 ≡ count s) → may_lose s (some (sess s q g r xs)) (some (segment 0 (j + 1) (data_at (frame_of s fair (j + 1))))) ≡ true → (j + 1 < g) ⊎ Last s r g
+      go : (r : ℕ) → Dec (j + 1 ≡ g) → Dec (j + 1 ≡ count s) → may_lose s (Some (sess s q g r xs)) (Some (segment 0 (j + 1) (data_at (frame_of s fair (j + 1))))) ≡ true → (j + 1 < g) ⊎ Last s r g
       go (suc r) d f h = inr (inl (omega arith))
       go zero (no e) f h = inl (omega arith)
       go zero (yes e) (yes f) h = inr (inr (omega arith))
@@ -241,21 +241,21 @@ module _ (s : Setting) (fair : Fair s) (q : Silence) (g r : ℕ) (xs : List Piec
 
 -- ---- the CTSs that may still come
 
-pub answers_first : (s : Setting) (q : Silence) (c : ℕ) → 1 ≤ c → c ≤ count s → to_answer s (some (sess s q c 0 [])) + 53 ≤ 53 * (5 + count s)
+pub answers_first : (s : Setting) (q : Silence) (c : ℕ) → 1 ≤ c → c ≤ count s → to_answer s (Some (sess s q c 0 [])) + 53 ≤ 53 * (5 + count s)
 unfolding to_answer sess announcement_for is_rts
 answers_first s q c l u = omega arith
 
-pub answers_same : (s : Setting) (q q' : Silence) (g r : ℕ) (xs ys : List Piece) → to_answer s (some (sess s q g r xs)) ≡ to_answer s (some (sess s q' g r ys))
+pub answers_same : (s : Setting) (q q' : Silence) (g r : ℕ) (xs ys : List Piece) → to_answer s (Some (sess s q g r xs)) ≡ to_answer s (Some (sess s q' g r ys))
 unfolding to_answer sess announcement_for
 answers_same s q q' g r xs ys = refl
 
 pub answers_next : (s : Setting) (q q' : Silence) (g g' r : ℕ) (xs ys : List Piece) → r ≡ 0 → g < g' → g' ≤ count s
-    → to_answer s (some (sess s q' g' r ys)) + 53 ≤ to_answer s (some (sess s q g r xs))
+    → to_answer s (Some (sess s q' g' r ys)) + 53 ≤ to_answer s (Some (sess s q g r xs))
 unfolding to_answer sess announcement_for is_rts
 answers_next s q q' g g' r xs ys z l u = rw z (omega arith)
 
 pub answers_request : (s : Setting) (q q' : Silence) (g g' r : ℕ) (xs : List Piece) → r < 5
-    → to_answer s (some (sess s q' g' (r + 1) xs)) + 53 ≤ to_answer s (some (sess s q g r xs))
+    → to_answer s (Some (sess s q' g' (r + 1) xs)) + 53 ≤ to_answer s (Some (sess s q g r xs))
 unfolding to_answer sess announcement_for is_rts
 answers_request s q q' g g' r xs l = rw (ne_eqb (r + 1) 0 (λ e. omega arith)) (omega arith)
 
@@ -300,6 +300,6 @@ paid_all s k g r xs j e (inr l) h = go (eqb r 0) h
 pub paid_request : (s : Setting) (k g r : ℕ) (xs : List Piece) (j a c : ℕ) → j ≡ g → Last s r g → 1 ≤ c → Paid s k g r xs j → Paid s k (a + c) (r + 1) xs a
 paid_request s k g r xs j a c e l m h = let p = paid_all s k g r xs j e l h in rw (ne_eqb (r + 1) 0 (λ z. omega arith)) (omega arith)
 
-pub paid_up : (s : Setting) (k : ℕ) (q : Silence) (g r : ℕ) (xs : List Piece) (j : ℕ) → j ≡ g → Last s r g → Spent s (some (sess s q g r xs)) → Paid s k g r xs j → 6 ≤ k
+pub paid_up : (s : Setting) (k : ℕ) (q : Silence) (g r : ℕ) (xs : List Piece) (j : ℕ) → j ≡ g → Last s r g → Spent s (Some (sess s q g r xs)) → Paid s k g r xs j → 6 ≤ k
 unfolding sess
 paid_up s k q g r xs j e l (five, few) h = let p = paid_all s k g r xs j e l h in omega arith

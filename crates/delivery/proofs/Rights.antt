@@ -1,7 +1,7 @@
 -- Frames on their way to the receiver, by what it reads in them.
+use Rattle.std.specs.Prelude.{None, Option, Some}
 use Prim.Native.Nat.{ℕ, ◌+◌}
 use mathlib.Core.Path.{◌≡◌}
-use mathlib.Core.Option.{Option, none, some}
 use mathlib.Core.List.{List, [], ◌∷◌, ◌++◌}
 use native.Mathlib.Omega.{arith}
 use lib.ListN.{length, take}
@@ -14,18 +14,18 @@ use Rattle.delivery.specs.Link.{Setting, body_for, offer}
 
 -- the key's own: the message's announcement, and data out of the message
 abbrev pub Right : Setting → Option Body → Type 0
-Right s none = ⊥
-Right s (some (announce a)) = a ≡ announcement_of (offer s)
-Right s (some (segment format n d)) = take (due (length s.message) n) d ≡ piece_of s.message n
-Right s (some (status st)) = Unit {0}
-Right s (some (abort pgn)) = Unit {0}
+Right s None = ⊥
+Right s (Some (announce a)) = a ≡ announcement_of (offer s)
+Right s (Some (segment format n d)) = take (due (length s.message) n) d ≡ piece_of s.message n
+Right s (Some (status st)) = Unit {0}
+Right s (Some (abort pgn)) = Unit {0}
 
 abbrev pub opening : Option Body → ℕ
-opening none = 0
-opening (some (announce a)) = 1
-opening (some (segment format n d)) = 0
-opening (some (status st)) = 0
-opening (some (abort pgn)) = 0
+opening None = 0
+opening (Some (announce a)) = 1
+opening (Some (segment format n d)) = 0
+opening (Some (status st)) = 0
+opening (Some (abort pgn)) = 0
 
 abbrev pub Rights : Setting → List Wire → Type 0
 Rights s [] = Unit {0}

@@ -1,8 +1,8 @@
 -- What the receiver holds and hands over, whatever of the message's frames it takes, in any order. It, Expected and Requests know its rules.
+use Rattle.std.specs.Prelude.{None, Option, Some}
 use Prim.Native.Nat.{ℕ, ◌+◌, ◌≤◌}
 use mathlib.Core.Path.{◌≡◌, refl, ap, ◌∙◌}
 use mathlib.Core.Bool.{Bool, false, cond, not, ◌||◌}
-use mathlib.Core.Option.{Option, none, some}
 use mathlib.Core.List.{List, [], ◌∷◌}
 use native.Mathlib.Omega.{arith}
 use lib.Dec.{eqb, ltb}
@@ -27,12 +27,12 @@ use Rattle.delivery.proofs.Rights.{Right, opening}
 
 -- a session is of what was announced, and holds pieces of the message, none twice
 abbrev pub Holds : Setting → Option rules.Open → Type 0
-Holds s none = Unit {0}
-Holds s (some r) = (r.told ≡ announcement_of (offer s)) × Good s r.pieces
+Holds s None = Unit {0}
+Holds s (Some r) = (r.told ≡ announcement_of (offer s)) × Good s r.pieces
 
 abbrev pub is_one : Option rules.Open → ℕ
-is_one none = 0
-is_one (some r) = 1
+is_one None = 0
+is_one (Some r) = 1
 
 abbrev pub Wholes : Setting → List Says → Type 0
 Wholes s [] = Unit {0}
@@ -66,8 +66,8 @@ module _ (s : Setting) where
 
     takes_admitted : (x : Option rules.Open) → Holds s x → Takes s (1 + is_one x) (admitted s.key last false x a)
     unfolding admitted
-    takes_admitted none h = takes_opens 0
-    takes_admitted (some r) h = either_way (Takes s 2) (starts_anew a r) (λ e. takes_opens 1) (λ e. takes_rejected (some r) h key_open)
+    takes_admitted None h = takes_opens 0
+    takes_admitted (Some r) h = either_way (Takes s 2) (starts_anew a r) (λ e. takes_opens 1) (λ e. takes_rejected (Some r) h key_open)
 
     takes_announced : (x : Option rules.Open) → Holds s x → Takes s (1 + is_one x) (announced s.values.own s.key last false x a)
     unfolding announced
@@ -81,13 +81,13 @@ module _ (s : Setting) where
 
   -- ---- an open session
 
-  takes_ends : (a : Announcement) (c : Cause) → Takes s 1 (none, ending s.key a c)
+  takes_ends : (a : Announcement) (c : Cause) → Takes s 1 (None, ending s.key a c)
   unfolding ending
-  takes_ends a c = quiet 1 none _ tt (omega arith) refl
+  takes_ends a c = quiet 1 None _ tt (omega arith) refl
 
   module _ (last : ℕ) (r : rules.Open) (told : r.told ≡ announcement_of (offer s)) (good : Good s r.pieces) where
-    stays : (n : ℕ) → Takes s 1 (some r, refuse n)
-    stays n = quiet 1 (some r) (refuse n) (told, good) (omega arith) refl
+    stays : (n : ℕ) → Takes s 1 (Some r, refuse n)
+    stays n = quiet 1 (Some r) (refuse n) (told, good) (omega arith) refl
 
     told_count : r.told.segments.0 ≡ count s
     told_count = ap (λ (a : Announcement). a.segments.0) told
@@ -133,7 +133,7 @@ module _ (s : Setting) where
         ∙ ap (λ (d : List ℕ). handed (key_in s) (kind_of (key_in s).da) (length s.message) (count s) s.pgn d)
         (joined_whole (count s) s.message r.pieces (unfold segments_of in refl) good (e ∙ told_count))
 
-    takes_whole : length r.pieces ≡ r.told.segments.0 → Takes s 1 (none, hand_over s.key r.told (joined r.told.segments.0 r.pieces))
+    takes_whole : length r.pieces ≡ r.told.segments.0 → Takes s 1 (None, hand_over s.key r.told (joined r.told.segments.0 r.pieces))
     unfolding hand_over
     takes_whole e = record { holds = tt; once = omega arith; wholes = (handed_whole e, tt) }
 
@@ -145,21 +145,21 @@ module _ (s : Setting) where
 
     takes_abort : (pgn : ℕ) → Takes s 1 (abort_open s.key r pgn)
     unfolding abort_open
-    takes_abort pgn = either_way (Takes s 1) (eqb pgn r.told.pgn) (λ e. quiet 1 none _ tt (omega arith) refl) (λ e. stays 16)
+    takes_abort pgn = either_way (Takes s 1) (eqb pgn r.told.pgn) (λ e. quiet 1 None _ tt (omega arith) refl) (λ e. stays 16)
 
   -- ---- any frame
 
-  not_open : (n : ℕ) → Takes s 0 (none, refuse n)
-  not_open n = quiet 0 none (refuse n) tt (omega arith) refl
+  not_open : (n : ℕ) → Takes s 0 (None, refuse n)
+  not_open n = quiet 0 None (refuse n) tt (omega arith) refl
 
   pub takes_any : (x : Option rules.Open) → Holds s x → (last : ℕ) (b : Option Body) → Right s b → Takes s (opening b + is_one x) (by_body s x last b)
   unfolding rule
-  takes_any x h last none right = absurd right
-  takes_any x h last (some (announce a)) right = takes_announced last a right x h
-  takes_any none h last (some (segment format n d)) right = either_way (Takes s 0) (not (eqb format 0)) (λ e. not_open 17) (λ e. not_open 16)
-  takes_any none h last (some (status st)) right = not_open 16
-  takes_any none h last (some (abort pgn)) right = not_open 16
-  takes_any (some r) h last (some (segment format n d)) right =
+  takes_any x h last None right = absurd right
+  takes_any x h last (Some (announce a)) right = takes_announced last a right x h
+  takes_any None h last (Some (segment format n d)) right = either_way (Takes s 0) (not (eqb format 0)) (λ e. not_open 17) (λ e. not_open 16)
+  takes_any None h last (Some (status st)) right = not_open 16
+  takes_any None h last (Some (abort pgn)) right = not_open 16
+  takes_any (Some r) h last (Some (segment format n d)) right =
       either_way (Takes s 1) (not (eqb format 0)) (λ e. stays last r h.0 h.1 17) (λ e. takes_segment last r h.0 h.1 n d right)
-  takes_any (some r) h last (some (status st)) right = takes_status last r h.0 h.1 st
-  takes_any (some r) h last (some (abort pgn)) right = takes_abort last r h.0 h.1 pgn
+  takes_any (Some r) h last (Some (status st)) right = takes_status last r h.0 h.1 st
+  takes_any (Some r) h last (Some (abort pgn)) right = takes_abort last r h.0 h.1 pgn

@@ -1,4 +1,5 @@
 -- What the sender sends, whatever it hears: frames out of the message. With Sending only this file knows its rules.
+use Rattle.std.specs.Prelude.{Err, None, Ok, Option, Result, Some}
 use Prim.Native.Nat.{ℕ, ◌+◌, ◌≤◌}
 use mathlib.Core.Path.{◌≡◌, refl}
 use mathlib.Core.Bool.{Bool, true, false, ◌&&◌}
@@ -14,15 +15,12 @@ use Rattle.frame.specs.Judge.{route_of}
 use Rattle.transport.specs.declared.cts.Cts.{Cts}
 use Rattle.transport.specs.declared.cts.CtsRead.{CtsRead}
 use Rattle.transport.specs.declared.eoma.Eoma.{Eoma}
-use Rattle.transport.specs.declared.response.ResponseRead.{ResponseRead}
 use Rattle.transport.specs.declared.response.ResponseRead.TheVariants as response
 use Rattle.transport.specs.Responses.{response_of}
 use Rattle.transport.specs.Kinds.{is_rts}
 use Rattle.session.specs.Ends.{is_idle}
 use Rattle.transfer.specs.declared.Course.{Course}
 use Rattle.transfer.specs.declared.Transfer.{Transfer}
-use Rattle.transfer.specs.declared.State.{State}
-use Rattle.transfer.specs.declared.State.TheVariants.{Closed, Open}
 use Rattle.transfer.specs.declared.Reply.{Reply}
 use Rattle.transfer.specs.declared.Reply.TheVariants as reply
 use Rattle.transfer.specs.declared.Step.{Step}
@@ -37,6 +35,7 @@ use Rattle.delivery.specs.Losses.{ending_frames, sent_at}
 use Rattle.delivery.proofs.Wires.{reads_for, on_status, on_segment, on_ending, data_taken}
 use Rattle.delivery.proofs.Expected.{count}
 use Rattle.delivery.proofs.Rights.{Later, later_frame}
+use Rattle.transport.specs.declared.response.ResponseRead.{ResponseRead}
 
 -- what goes out next and what is granted lie in the message
 pub record Within (s : Setting) (c : Course) : Type 0 where
@@ -47,12 +46,12 @@ pub record Within (s : Setting) (c : Course) : Type 0 where
 abbrev pub transfer_on : Setting → Course → Transfer
 transfer_on s c = record { offer = offer s; course = c }
 
-pub data Sending (s : Setting) : State → Type 0 where
-  closed : Sending s Closed
-  sending : (c : Course) → Within s c → Sending s (Open (transfer_on s c))
+pub data Sending (s : Setting) : Option Transfer → Type 0 where
+  closed : Sending s None
+  sending : (c : Course) → Within s c → Sending s (Some (transfer_on s c))
 
 -- what a step leaves and sends
-pub record Fits (s : Setting) (x : State) (r : Step) : Type 0 where
+pub record Fits (s : Setting) (x : Option Transfer) (r : Step) : Type 0 where
   pub leaves : Sending s (after x r.change)
   pub frames : Later s (queued (sends (key_in s) s.message r.reply))
 
@@ -74,7 +73,7 @@ module _ (s : Setting) (fair : Fair s) where
 
 -- ---- the announcement has gone out
 
-pub sending_first : (s : Setting) (last : ℕ) → Sending s (Open (transfer_of (offer s) last))
+pub sending_first : (s : Setting) (last : ℕ) → Sending s (Some (transfer_of (offer s) last))
 sending_first s last = sending (transfer_of (offer s) last).course (record { from = omega arith; to = omega arith; granted = first_granted_lem })
   where
     first_granted_lem : first_granted (offer s) ≤ count s
@@ -82,12 +81,12 @@ sending_first s last = sending (transfer_of (offer s) last).course (record { fro
 
 -- ---- one that is open
 
-fits_refused : (s : Setting) (x : State) (n : Refusal) → Sending s x → Fits s x (refused n)
+fits_refused : (s : Setting) (x : Option Transfer) (n : Refusal) → Sending s x → Fits s x (refused n)
 fits_refused s x n h = record { leaves = h; frames = (tt, refl) }
 
 module _ (s : Setting) (fair : Fair s) (c : Course) (w : Within s c) where
-  abbrev now : State
-  now = Open (transfer_on s c)
+  abbrev now : Option Transfer
+  now = Some (transfer_on s c)
 
   fits_moves : (d : Course) → Within s d → (r : Reply) → Later s (queued (sends (key_in s) s.message r)) → Fits s now (moves d r)
   fits_moves d v r h = record { leaves = sending d v; frames = h }
@@ -152,32 +151,32 @@ module _ (s : Setting) (fair : Fair s) (c : Course) (w : Within s c) where
 -- ---- any one: asked, a frame heard, a reading
 
 module _ (s : Setting) (fair : Fair s) where
-  pub fits_asked : (x : State) → Sending s x → (last : ℕ) → Fits s x (answered x last)
+  pub fits_asked : (x : Option Transfer) → Sending s x → (last : ℕ) → Fits s x (answered x last)
   unfolding answered
-  fits_asked Closed closed last = fits_refused s Closed KeyNotOpen closed
-  fits_asked (Open t) (sending c w) last = fits_next s fair c w last
+  fits_asked None closed last = fits_refused s None KeyNotOpen closed
+  fits_asked (Some t) (sending c w) last = fits_next s fair c w last
 
-  fits_hears : (x : State) → Sending s x → (r : ResponseRead) (last : ℕ) → Fits s x (hears x r last)
+  fits_hears : (x : Option Transfer) → Sending s x → (r : Result ResponseRead Refusal) (last : ℕ) → Fits s x (hears x r last)
   unfolding hears
-  fits_hears x h (response.Refused n) last = fits_refused s x n h
-  fits_hears Closed closed (response.Cts f) last = fits_refused s Closed KeyNotOpen closed
-  fits_hears Closed closed (response.Eoma f) last = fits_refused s Closed KeyNotOpen closed
-  fits_hears Closed closed (response.Abort f) last = fits_refused s Closed KeyNotOpen closed
-  fits_hears (Open t) (sending c w) (response.Cts f) last = fits_pgn s fair c w f.cts.pgn (λ t. cts_open t f last) (fits_cts s fair c w f last)
-  fits_hears (Open t) (sending c w) (response.Eoma f) last = fits_pgn s fair c w f.pgn (λ t. eoma_open t f) (fits_eoma s fair c w f)
-  fits_hears (Open t) (sending c w) (response.Abort f) last =
+  fits_hears x h (Err n) last = fits_refused s x n h
+  fits_hears None closed (Ok (response.Cts f)) last = fits_refused s None KeyNotOpen closed
+  fits_hears None closed (Ok (response.Eoma f)) last = fits_refused s None KeyNotOpen closed
+  fits_hears None closed (Ok (response.Abort f)) last = fits_refused s None KeyNotOpen closed
+  fits_hears (Some t) (sending c w) (Ok (response.Cts f)) last = fits_pgn s fair c w f.cts.pgn (λ t. cts_open t f last) (fits_cts s fair c w f last)
+  fits_hears (Some t) (sending c w) (Ok (response.Eoma f)) last = fits_pgn s fair c w f.pgn (λ t. eoma_open t f) (fits_eoma s fair c w f)
+  fits_hears (Some t) (sending c w) (Ok (response.Abort f)) last =
       fits_pgn s fair c w f.pgn (λ t. ends (reply.Aborted t.offer.key)) (record { leaves = closed; frames = (tt, refl) })
 
-  pub fits_heard : (x : State) → Sending s x → (last : ℕ) (f : Wire) → Fits s x (heard s x last f)
+  pub fits_heard : (x : Option Transfer) → Sending s x → (last : ℕ) (f : Wire) → Fits s x (heard s x last f)
   unfolding heard
   fits_heard x h last f =
-      let r : ResponseRead = response_of (route_of (identifier_of f.0)) f.1 in
+      let r : Result ResponseRead Refusal = response_of (route_of (identifier_of f.0)) f.1 in
       either_way (Fits s x) (is_for s.key r) (λ e. fits_hears x h r last) (λ e. fits_refused s x KeyNotOpen h)
 
-  pub at_reading : (t : ℕ) (x : State) → Sending s x → Sending s (kept_at s.limit t x) × Later s (sent_at s.limit t x)
+  pub at_reading : (t : ℕ) (x : Option Transfer) → Sending s x → Sending s (kept_at s.limit t x) × Later s (sent_at s.limit t x)
   unfolding kept_at
-  at_reading t Closed closed = (closed, (tt, refl))
-  at_reading t (Open x) (sending c w) =
-      either_way (λ e. Sending s (unless_ended (Open (transfer_on s c)) e) × Later s (ending_frames e)) (is_idle s.limit c.mark t)
+  at_reading t None closed = (closed, (tt, refl))
+  at_reading t (Some x) (sending c w) =
+      either_way (λ e. Sending s (unless_ended (Some (transfer_on s c)) e) × Later s (ending_frames e)) (is_idle s.limit c.mark t)
       (λ e. (closed, later_ending s fair Silence))
       (λ e. (sending c w, (tt, refl)))

@@ -1,13 +1,12 @@
 -- Whatever is lost and whoever falls silent: nothing is handed over, or the message, once.
+use Rattle.std.specs.Prelude.{Option, None, Some}
 use Prim.Native.Nat.{ℕ, ◌+◌, ◌≤◌}
 use mathlib.Core.Path.{◌≡◌, refl, ap}
 use mathlib.Core.Logic.{◌⊎◌, inl, inr}
-use mathlib.Core.Option.{Option, none, some}
 use mathlib.Core.List.{List, [], ◌∷◌, ◌++◌}
 use native.Mathlib.Omega.{arith}
 use lib.ListN.{length, length-append}
 use Rattle.laws.specs.Bools.{either_way}
-use Rattle.transfer.specs.declared.State.{State}
 use Rattle.isolation.specs.Replies.{Wire, Says}
 use Rattle.isolation.specs.Rules as rules
 use Rattle.isolation.specs.Rules.{Out, is_silent, judged_at}
@@ -18,9 +17,10 @@ use Rattle.delivery.proofs.Wires.{reads_for, on_offer}
 use Rattle.delivery.proofs.Rights.{opening, Rights, openings, Later, rights_join, openings_join}
 use Rattle.delivery.proofs.SafeSender.{Sending, sending_first, fits_asked, fits_heard, at_reading}
 use Rattle.delivery.proofs.SafeReceiver.{Holds, is_one, Wholes, Takes, takes_any}
+use Rattle.transfer.specs.declared.Transfer.{Transfer}
 
 -- by the transfer, the frames to the receiver, the session and what was handed over
-record Safe (s : Setting) (t : State) (fs : List Wire) (x : Option rules.Open) (hs : List Says) : Type 0 where
+record Safe (s : Setting) (t : Option Transfer) (fs : List Wire) (x : Option rules.Open) (hs : List Says) : Type 0 where
   within : Sending s t
   rights : Rights s fs
   holds : Holds s x
@@ -37,9 +37,9 @@ wholes_join s (h ∷ hs) gs (e, a) b = (e, wholes_join s hs gs a b)
 
 -- ---- what a move does to these four
 
-module _ {s : Setting} {t : State} {fs : List Wire} {x : Option rules.Open} {hs : List Says} where
+module _ {s : Setting} {t : (Option Transfer)} {fs : List Wire} {x : Option rules.Open} {hs : List Says} where
   -- the sender moves, and sends gs
-  sends_later : {u : State} (gs : List Wire) → Safe s t fs x hs → Sending s u → Later s gs → Safe s u (fs ++ gs) x hs
+  sends_later : {u : (Option Transfer)} (gs : List Wire) → Safe s t fs x hs → Sending s u → Later s gs → Safe s u (fs ++ gs) x hs
   sends_later {u} gs h w (a, z) =
       let e : openings s (fs ++ gs) ≡ openings s fs + openings s gs = openings_join s fs gs in
       let l : openings s fs + is_one x + length hs ≤ 1 = h.at_most_one in
@@ -61,7 +61,7 @@ module _ {s : Setting} {t : State} {fs : List Wire} {x : Option rules.Open} {hs 
       record { within = h.within; rights = h.rights.1; holds = h.holds; at_most_one = omega arith; wholes = h.wholes }
 
   -- a silence ends the session
-  falls_silent : Safe s t fs x hs → Safe s t fs none hs
+  falls_silent : Safe s t fs x hs → Safe s t fs None hs
   falls_silent h =
       let l : openings s fs + is_one x + length hs ≤ 1 = h.at_most_one in
       record { within = h.within; rights = h.rights; holds = tt; at_most_one = omega arith; wholes = h.wholes }
@@ -83,12 +83,12 @@ module _ (s : Setting) (fair : Fair s) where
   safe_backward x [] h = sends_later _ h h.within (tt, refl)
   safe_backward x (f ∷ fs) h = let g = fits_heard s fair x.transfer h.within x.senders_last f in sends_later _ h g.leaves g.frames
 
-  safe_judged : (t : State) (fs : List Wire) (hs : List Says) (last : ℕ) (x : Option rules.Open) → Safe s t fs x hs → Safe s t fs (judged_at s.values last x) hs
+  safe_judged : (t : Option Transfer) (fs : List Wire) (hs : List Says) (last : ℕ) (x : Option rules.Open) → Safe s t fs x hs → Safe s t fs (judged_at s.values last x) hs
   unfolding judged_at
-  safe_judged t fs hs last none h = h
-  safe_judged t fs hs last (some r) h = either_way (λ x. Safe s t fs x hs) (is_silent s.values last r) (λ e. falls_silent h) (λ e. h)
+  safe_judged t fs hs last None h = h
+  safe_judged t fs hs last (Some r) h = either_way (λ x. Safe s t fs x hs) (is_silent s.values last r) (λ e. falls_silent h) (λ e. h)
 
-  safe_lost : (t : State) (fs : List Wire) (x : Option rules.Open) (hs : List Says) → Safe s t fs x hs → Safe s t (without_oldest fs) x hs
+  safe_lost : (t : Option Transfer) (fs : List Wire) (x : Option rules.Open) (hs : List Says) → Safe s t fs x hs → Safe s t (without_oldest fs) x hs
   safe_lost t [] x hs h = h
   safe_lost t (f ∷ fs) x hs h = loses h
 

@@ -1,4 +1,5 @@
 -- What the sender gives, and does with the answers expected. It and Waiting know its rules; the rest sees `transfer_at` shut.
+use Rattle.std.specs.Prelude.{None, Option, Some}
 use Prim.Native.Nat.{ℕ, ◌+◌, ◌-◌, ◌*◌, ◌≤◌, ◌<◌}
 use mathlib.Core.Path.{◌≡◌, refl, sym, ap, ◌∙◌}
 use mathlib.Core.Bool.{Bool, true, false, cond, not, ◌&&◌}
@@ -14,11 +15,9 @@ use Rattle.transport.specs.declared.Kind.TheVariants.{Rts, Bam}
 use Rattle.transport.specs.ReadBack.{read_of}
 use Rattle.transfer.specs.declared.Course.{Course}
 use Rattle.transfer.specs.declared.Transfer.{Transfer}
-use Rattle.transfer.specs.declared.State.{State}
-use Rattle.transfer.specs.declared.State.TheVariants.{Closed, Open}
 use Rattle.transfer.specs.declared.Reply.{Reply}
 use Rattle.transfer.specs.declared.Reply.TheVariants as reply
-use Rattle.transfer.specs.declared.Change.TheVariants.{Stays}
+use Rattle.session.specs.declared.Change.TheVariants.{Stays}
 use Rattle.transfer.specs.declared.Step.{Step}
 use Rattle.transfer.specs.Transfers.{transfer_of, announcement_of}
 use Rattle.transfer.specs.Decisions.{after, moves, after_segment, ends, next_frame, cts_open, eoma_open, hears}
@@ -47,28 +46,28 @@ open_at : Setting → ℕ → ℕ → ℕ → Bool → Transfer
 open_at s mark i g e = record { offer = offer s; course = course_at s mark i g e }
 
 -- a broadcast has ended with its EOMS
-pub transfer_at : Kind → Setting → ℕ → ℕ → ℕ → Bool → State
-transfer_at Rts s mark i g e = Open (open_at s mark i g e)
-transfer_at Bam s mark i g false = Open (open_at s mark i g false)
-transfer_at Bam s mark i g true = Closed
+pub transfer_at : Kind → Setting → ℕ → ℕ → ℕ → Bool → Option Transfer
+transfer_at Rts s mark i g e = Some (open_at s mark i g e)
+transfer_at Bam s mark i g false = Some (open_at s mark i g false)
+transfer_at Bam s mark i g true = None
 
 abbrev pub first_grant : Kind → Setting → ℕ
 first_grant Rts s = 0
 first_grant Bam s = count s
 
-pub announced_at_lem : (κ : Kind) (s : Setting) → Fair s → Goes κ s.key → (last : ℕ) → Open (transfer_of (offer s) last) ≡ transfer_at κ s last 0 (first_grant κ s) false
+pub announced_at_lem : (κ : Kind) (s : Setting) → Fair s → Goes κ s.key → (last : ℕ) → Some (transfer_of (offer s) last) ≡ transfer_at κ s last 0 (first_grant κ s) false
 unfolding transfer_at open_at course_at
 announced_at_lem Rts s fair e last = let l : 1 ≤ count s = some_segments s fair in rw (e, ne_eqb 0 (count s) (λ z. omega arith))
 announced_at_lem Bam s fair e last = let l : 1 ≤ count s = some_segments s fair in rw (e, ne_eqb 0 (count s) (λ z. omega arith))
 
 -- ---- an ask: the frames given, the transfer that it leaves, and whether it has ended well
 
-pub record Gives (s : Setting) (x : State) (last : ℕ) (fs : List Wire) (y : State) (w : Bool) : Type 0 where
+pub record Gives (s : Setting) (x : Option Transfer) (last : ℕ) (fs : List Wire) (y : Option Transfer) (w : Bool) : Type 0 where
   pub frames : frames_due s x last ≡ fs
   pub leaves : after x (answered x last).change ≡ y
   pub ends : ends_well (answered x last) ≡ w
 
-pub by_answer : (s : Setting) (x : State) (last : ℕ) (r : Step) → answered x last ≡ r
+pub by_answer : (s : Setting) (x : Option Transfer) (last : ℕ) (r : Step) → answered x last ≡ r
     → Gives s x last (queued (sends (key_in s) s.message r.reply)) (after x r.change) (ends_well r)
 by_answer s x last r e = record {
   frames = ap (λ (q : Step). queued (sends (key_in s) s.message q.reply)) e;
@@ -144,7 +143,7 @@ module _ (s : Setting) (mark last i g : ℕ) where
   no_more Rts e u =
       by_answer s (transfer_at Rts s mark i g true) last (record { change = Stays; reply = reply.NothingDue })
       (rw (eq-eqb i (count s) e, lt-ltb g (i + 1) (omega arith)))
-  no_more Bam e u = by_answer s Closed last _ refl
+  no_more Bam e u = by_answer s None last _ refl
 
 -- i segments have gone out, within the grant; the EOMS goes out after the last
 pub record Sent (s : Setting) (i g : ℕ) (e : Bool) : Type 0 where
@@ -171,24 +170,24 @@ what_is_due κ s k mark last i g false st = go (dec_lt i g) (ℕ_discrete i (cou
     go (no l) (yes e) w b = final e (gives_eoms s mark last i g κ k e)
     go (no l) (no e) w b = nothing (waits s mark last i g κ (omega arith) (omega arith))
 
-pub ended_gives_none : (s : Setting) (last : ℕ) → Gives s Closed last [] Closed false
+pub ended_gives_none : (s : Setting) (last : ℕ) → Gives s None last [] None false
 unfolding answered
-ended_gives_none s last = by_answer s Closed last _ refl
+ended_gives_none s last = by_answer s None last _ refl
 
 -- nothing due, no frame
-pub none_given : (s : Setting) (x : State) (last : ℕ) → NothingIsDue x last → frames_due s x last ≡ []
+pub none_given : (s : Setting) (x : Option Transfer) (last : ℕ) → NothingIsDue x last → frames_due s x last ≡ []
 unfolding answered
-none_given s Closed last e = refl
-none_given s (Open t) last e = ap (λ (r : Reply). queued (sends (key_in s) s.message r)) e
+none_given s None last e = refl
+none_given s (Some t) last e = ap (λ (r : Reply). queued (sends (key_in s) s.message r)) e
 
 -- ---- an answer: the transfer that it leaves, with nothing refused, and whether it has ended well
 
-pub record Hears (s : Setting) (x : State) (last : ℕ) (f : Wire) (y : State) (w : Bool) : Type 0 where
+pub record Hears (s : Setting) (x : Option Transfer) (last : ℕ) (f : Wire) (y : Option Transfer) (w : Bool) : Type 0 where
   pub leaves : after x (heard s x last f).change ≡ y
   pub refuses : refusals (heard s x last f).reply ≡ []
   pub ends : ends_well (heard s x last f) ≡ w
 
-by_step : (s : Setting) (x : State) (last : ℕ) (f : Wire) (r : Step) → heard s x last f ≡ r → refusals r.reply ≡ [] → Hears s x last f (after x r.change) (ends_well r)
+by_step : (s : Setting) (x : Option Transfer) (last : ℕ) (f : Wire) (r : Step) → heard s x last f ≡ r → refusals r.reply ≡ [] → Hears s x last f (after x r.change) (ends_well r)
 by_step s x last f r e h = record {
   leaves = ap (λ (q : Step). after x q.change) e;
   refuses = ap (λ (q : Step). refusals q.reply) e ∙ h;
@@ -222,22 +221,22 @@ module _ (s : Setting) (fair : Fair s) (mark last i g : ℕ) where
   unfolding transfer_at open_at course_at hears eoma_open
   eoma_heard = rw (eq-eqb s.pgn s.pgn refl, eq-eqb (length s.message) (length s.message) refl, eq-eqb (count s) (count s) refl)
 
-  pub hears_eoma : Hears s (transfer_at Rts s mark i g true) last (eoma_wire s) Closed true
+  pub hears_eoma : Hears s (transfer_at Rts s mark i g true) last (eoma_wire s) None true
   hears_eoma =
       by_step s (transfer_at Rts s mark i g true) last (eoma_wire s) (ends (reply.Acknowledged (key_in s)))
       (on_eoma s fair (transfer_at Rts s mark i g true) last ∙ eoma_heard) refl
 
 -- a broadcast has ended with its EOMS
-pub broadcast_ended : (s : Setting) (mark i g : ℕ) → transfer_at Bam s mark i g true ≡ Closed
+pub broadcast_ended : (s : Setting) (mark i g : ℕ) → transfer_at Bam s mark i g true ≡ None
 unfolding transfer_at
 broadcast_ended s mark i g = refl
 
 -- ---- a calm reading
 
-pub kept : (limit t : ℕ) (x : State) → Unended limit t x → kept_at limit t x ≡ x
+pub kept : (limit t : ℕ) (x : Option Transfer) → Unended limit t x → kept_at limit t x ≡ x
 unfolding kept_at
-kept limit t Closed u = refl
-kept limit t (Open x) u = ap (unless_ended (Open x)) u
+kept limit t None u = refl
+kept limit t (Some x) u = ap (unless_ended (Some x)) u
 
 -- ---- what has not gone out
 
@@ -249,7 +248,7 @@ unsent_at Bam s mark i g true h = let z : i ≡ count s = h refl in omega arith
 
 -- as Losses weighs it
 
-pub send_ended : to_send Closed ≡ 0
+pub send_ended : to_send None ≡ 0
 unfolding to_send
 send_ended = refl
 

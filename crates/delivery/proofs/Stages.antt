@@ -1,16 +1,14 @@
 -- The stages of a transfer, and the link at each: the invariant.
+use Rattle.std.specs.Prelude.{None, Option, Some}
 use Prim.Native.Nat.{ℕ, zero, suc, ◌+◌, ◌-◌, ◌*◌, ◌≤◌, ◌<◌}
 use mathlib.Core.Path.{◌≡◌, refl, ap}
 use mathlib.Core.Logic.{◌⊎◌}
 use mathlib.Core.Bool.{Bool, true, false, cond}
-use mathlib.Core.Option.{Option, none, some}
 use mathlib.Core.List.{List, [], ◌∷◌, ◌++◌}
 use native.Mathlib.Omega.{arith}
 use lib.ListN.{length}
 use Rattle.transport.specs.declared.Kind.{Kind}
 use Rattle.transport.specs.declared.Kind.TheVariants.{Rts, Bam}
-use Rattle.transfer.specs.declared.State.{State}
-use Rattle.transfer.specs.declared.State.TheVariants.{Closed}
 use Rattle.transfer.specs.Sends.{offer_wire, segment_wire, status_wire}
 use Rattle.isolation.specs.Replies.{Wire, Says}
 use Rattle.isolation.specs.Rules as rules
@@ -19,6 +17,7 @@ use Rattle.delivery.specs.Arrival.{unsent, measure}
 use Rattle.delivery.proofs.Wires.{cts_wire, eoma_wire}
 use Rattle.delivery.proofs.Expected.{count, Goes, Silence, session_at, handed_by}
 use Rattle.delivery.proofs.Sending.{transfer_at, first_grant, ended_at, Sent, unsent_at}
+use Rattle.transfer.specs.declared.Transfer.{Transfer}
 
 -- ---- on their way: segments j + 1 to j + n, then the EOMS if it has gone out
 
@@ -66,23 +65,23 @@ pub record Marks : Type 0 where
 
 -- the link at a stage, but for the readings; nothing has been refused
 pub record Shape : Type 0 where
-  pub transfer : State
+  pub transfer : Option Transfer
   pub forward : List Wire
   pub backward : List Wire
   pub session : Option rules.Open
   pub handed : List Says
   pub well : Bool
 
-abbrev shape : State → List Wire → List Wire → Option rules.Open → List Says → Bool → Shape
+abbrev shape : Option Transfer → List Wire → List Wire → Option rules.Open → List Says → Bool → Shape
 shape t fs bs x h w = record { transfer = t; forward = fs; backward = bs; session = x; handed = h; well = w }
 
 -- a and b: the marks
 unfoldable pub shape_at : Kind → Setting → ℕ → Silence → Stage → Shape
-shape_at κ s a b (announcing n e) = shape (transfer_at κ s a n (first_grant κ s) e) (offer_wire (offer s) ∷ flight s 0 n e) [] none [] (ended_at κ e)
-shape_at κ s a b (granting j c) = shape (transfer_at κ s a j j false) [] (cts_wire s (j + 1) c ∷ []) (some (session_at κ s b j (j + c))) [] false
-shape_at κ s a b (moving j n g e) = shape (transfer_at κ s a (j + n) g e) (flight s j n e) [] (some (session_at κ s b j g)) [] (ended_at κ e)
-shape_at κ s a b acknowledging = shape (transfer_at κ s a (count s) (count s) true) [] (eoma_wire s ∷ []) none (handed_by κ s ∷ []) false
-shape_at κ s a b done = shape Closed [] [] none (handed_by κ s ∷ []) true
+shape_at κ s a b (announcing n e) = shape (transfer_at κ s a n (first_grant κ s) e) (offer_wire (offer s) ∷ flight s 0 n e) [] None [] (ended_at κ e)
+shape_at κ s a b (granting j c) = shape (transfer_at κ s a j j false) [] (cts_wire s (j + 1) c ∷ []) (Some (session_at κ s b j (j + c))) [] false
+shape_at κ s a b (moving j n g e) = shape (transfer_at κ s a (j + n) g e) (flight s j n e) [] (Some (session_at κ s b j g)) [] (ended_at κ e)
+shape_at κ s a b acknowledging = shape (transfer_at κ s a (count s) (count s) true) [] (eoma_wire s ∷ []) None (handed_by κ s ∷ []) false
+shape_at κ s a b done = shape None [] [] None (handed_by κ s ∷ []) true
 
 abbrev pub link_at : Kind → Setting → Stage → Marks → Link
 link_at κ s stage r = record {

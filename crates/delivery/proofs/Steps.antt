@@ -1,9 +1,9 @@
 -- Every calm move takes a stage to a stage, and lowers the measure if it gives or takes a frame.
+use Rattle.std.specs.Prelude.{Some}
 use Prim.Native.Nat.{ℕ, zero, suc, ◌+◌, ◌≤◌, ◌<◌}
 use mathlib.Core.Path.{◌≡◌, refl}
 use mathlib.Core.Logic.{◌⊎◌, inl, inr}
 use mathlib.Core.Bool.{Bool, true, false, cond, or-false}
-use mathlib.Core.Option.{some}
 use mathlib.Core.List.{[], append-nil}
 use native.Mathlib.Omega.{arith}
 use native.Mathlib.Decide.{ℕ_discrete}
@@ -111,8 +111,8 @@ module _ (s : Setting) (fair : Fair s) (r : Marks) where
   module _ (j g : ℕ) where
     -- a segment that brings no answer
     one_more : (κ : Kind) (n : ℕ) (e : Bool) → Moving κ s j (suc n) g e → (j + 1 < g) ⊎ (j + 1 ≡ count s)
-        → received s (some (session_at κ s r.receivers_mark j g)) r.receivers_last (segment_wire (key_in s) s.message (j + 1))
-        ≡ (some (session_at κ s (from r.receivers_last Second) (j + 1) g), plain (took (key_in s) (j + 1)))
+        → received s (Some (session_at κ s r.receivers_mark j g)) r.receivers_last (segment_wire (key_in s) s.message (j + 1))
+        ≡ (Some (session_at κ s (from r.receivers_last Second) (j + 1) g), plain (took (key_in s) (j + 1)))
         → Step κ s take_forward (moving j (suc n) g e) r
     unfolding step works taken_forward at_receiver shape_at height flight
     one_more κ n e st o d =
@@ -121,8 +121,8 @@ module _ (s : Setting) (fair : Fair s) (r : Marks) where
 
     -- a segment that uses the grant up: it was the last on its way
     next_grant : (n : ℕ) (e : Bool) → Moving Rts s j (suc n) g e → j + 1 ≡ g → (c : ℕ) → 1 ≤ c → j + 1 + c ≤ count s
-        → received s (some (session_at Rts s r.receivers_mark j g)) r.receivers_last (segment_wire (key_in s) s.message (j + 1))
-        ≡ (some (session_at Rts s (from r.receivers_last First) (j + 1) (j + 1 + c)), cts s.key (j + 1 + 1) c s.pgn)
+        → received s (Some (session_at Rts s r.receivers_mark j g)) r.receivers_last (segment_wire (key_in s) s.message (j + 1))
+        ≡ (Some (session_at Rts s (from r.receivers_last First) (j + 1) (j + 1 + c)), cts s.key (j + 1 + 1) c s.pgn)
         → Step Rts s take_forward (moving j (suc n) g e) r
     unfolding step works taken_forward at_receiver shape_at height flight cts sent
     next_grant (suc n) e st a c b l d = absurd (omega (arith, st.sent.within))

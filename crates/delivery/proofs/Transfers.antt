@@ -1,4 +1,5 @@
 -- The transfers of a record by their places: what is known of a key, and a change to the one place that is the key's.
+use Rattle.std.specs.Prelude.{None, Option, Some, ℕ}
 use Prim.Native.Nat.{ℕ, zero, suc, ◌<◌, suc-le-suc}
 use mathlib.Core.Path.{◌≡◌, refl, sym, ap, ◌∙◌}
 use mathlib.Core.Logic.{◌⊎◌, inl, inr}
@@ -12,23 +13,20 @@ use borrow.Author.Tests.{not-true}
 use mathlib.Mathlib.Data.Bool.Basic.{and_elim_left, and_elim_right, or_inr}
 use Rattle.laws.specs.Bools.{clash, not_passed, both, by_test}
 use Rattle.transport.specs.declared.Key.{Key}
-use Rattle.slots.specs.declared.Found.{Found}
-use Rattle.slots.specs.declared.Found.TheVariants.{At, Nothing}
 use Rattle.slots.specs.Slots.{same_key}
 use Rattle.slots.specs.Searches.{first_some, from_none}
 use Rattle.isolation.proofs.Slots.{same_keys, keys_same}
-use Rattle.transfer.specs.declared.State.{State}
-use Rattle.transfer.specs.declared.State.TheVariants.{Closed, Open}
 use Rattle.transfer.specs.Bounds.{transfer_ok, state_ok}
 use Rattle.sender.specs.Transfers.{holds, key_place, state_in, any_holds, one_ok, transfers_ok}
+use Rattle.transfer.specs.declared.Transfer.{Transfer}
 
 abbrev pub Transfers : Type 0
-Transfers = List State
+Transfers = List (Option Transfer)
 
-abbrev pub at : Transfers → ℕ → State
-at l i = get_or l i Closed
+abbrev pub at : Transfers → ℕ → Option Transfer
+at l i = get_or l i None
 
-abbrev pub known : Key → Transfers → State
+abbrev pub known : Key → Transfers → Option Transfer
 known κ l = state_in (key_place κ l) l
 
 abbrev pub Unique : Transfers → Type 0
@@ -39,22 +37,22 @@ AllOk l = (i : ℕ) → state_ok (at l i) ≡ true
 
 -- ---- one state
 
-pub holds_self : (κ : Key) (x : State) → (e : holds κ x ≡ true) → (n : Key) → holds n x ≡ true → n ≡ κ
-holds_self κ Closed e n h = absurd (clash false e refl)
-holds_self κ (Open t) e n h = sym (same_keys t.offer.key n h) ∙ same_keys t.offer.key κ e
+pub holds_self : (κ : Key) (x : Option Transfer) → (e : holds κ x ≡ true) → (n : Key) → holds n x ≡ true → n ≡ κ
+holds_self κ None e n h = absurd (clash false e refl)
+holds_self κ (Some t) e n h = sym (same_keys t.offer.key n h) ∙ same_keys t.offer.key κ e
 
 -- open under no other key
-abbrev pub OnlyFor : Key → State → Type 0
-OnlyFor κ Closed = Unit {0}
-OnlyFor κ (Open t) = t.offer.key ≡ κ
+abbrev pub OnlyFor : Key → Option Transfer → Type 0
+OnlyFor κ None = Unit {0}
+OnlyFor κ (Some t) = t.offer.key ≡ κ
 
-pub only_for : (κ : Key) (x : State) → holds κ x ≡ true → OnlyFor κ x
-only_for κ Closed e = tt
-only_for κ (Open t) e = same_keys t.offer.key κ e
+pub only_for : (κ : Key) (x : Option Transfer) → holds κ x ≡ true → OnlyFor κ x
+only_for κ None e = tt
+only_for κ (Some t) e = same_keys t.offer.key κ e
 
-only_held : (κ : Key) (x : State) → OnlyFor κ x → (n : Key) → holds n x ≡ true → n ≡ κ
-only_held κ Closed o n h = absurd (clash false h refl)
-only_held κ (Open t) o n h = sym (same_keys t.offer.key n h) ∙ o
+only_held : (κ : Key) (x : Option Transfer) → OnlyFor κ x → (n : Key) → holds n x ≡ true → n ≡ κ
+only_held κ None o n h = absurd (clash false h refl)
+only_held κ (Some t) o n h = sym (same_keys t.offer.key n h) ∙ o
 
 -- ---- what a search finds
 
@@ -63,25 +61,25 @@ holds_inside κ [] i e = absurd (clash false e refl)
 holds_inside κ (x ∷ l) zero e = omega arith
 holds_inside κ (x ∷ l) (suc i) e = suc-le-suc (holds_inside κ l i e)
 
-pub find_some : (κ : Key) (l : Transfers) (i : ℕ) → key_place κ l ≡ At i → (holds κ (at l i) ≡ true) × (i < length l)
-find_some κ l i e = first_some Closed (holds κ) l i e
+pub find_some : (κ : Key) (l : Transfers) (i : ℕ) → key_place κ l ≡ Some i → (holds κ (at l i) ≡ true) × (i < length l)
+find_some κ l i e = first_some None (holds κ) l i e
 
-pub find_none : (κ : Key) (l : Transfers) → key_place κ l ≡ Nothing → (i : ℕ) → holds κ (at l i) ≡ false
-find_none κ l e i = not_passed (holds κ (at l i)) (λ h. clash (holds κ (at l i)) h (from_none Closed (holds κ) l 0 e i (holds_inside κ l i h)))
+pub find_none : (κ : Key) (l : Transfers) → key_place κ l ≡ None → (i : ℕ) → holds κ (at l i) ≡ false
+find_none κ l e i = not_passed (holds κ (at l i)) (λ h. clash (holds κ (at l i)) h (from_none None (holds κ) l 0 e i (holds_inside κ l i h)))
 
 pub known_held : (κ : Key) (l : Transfers) → Unique l → (i : ℕ) → holds κ (at l i) ≡ true → known κ l ≡ at l i
 known_held κ l u i h = go (key_place κ l) refl
   where
-    go : (f : Found) → key_place κ l ≡ f → state_in f l ≡ at l i
-    go Nothing e = absurd (clash (holds κ (at l i)) h (find_none κ l e i))
-    go (At j) e = ap (at l) (u j i κ (find_some κ l j e).0 h)
+    go : (f : Option ℕ) → key_place κ l ≡ f → state_in f l ≡ at l i
+    go None e = absurd (clash (holds κ (at l i)) h (find_none κ l e i))
+    go (Some j) e = ap (at l) (u j i κ (find_some κ l j e).0 h)
 
-pub known_none : (κ : Key) (l : Transfers) → ((i : ℕ) → holds κ (at l i) ≡ false) → known κ l ≡ Closed
+pub known_none : (κ : Key) (l : Transfers) → ((i : ℕ) → holds κ (at l i) ≡ false) → known κ l ≡ None
 known_none κ l h = go (key_place κ l) refl
   where
-    go : (f : Found) → key_place κ l ≡ f → state_in f l ≡ Closed
-    go Nothing e = refl
-    go (At j) e = absurd (clash (holds κ (at l j)) (find_some κ l j e).0 (h j))
+    go : (f : Option ℕ) → key_place κ l ≡ f → state_in f l ≡ None
+    go None e = refl
+    go (Some j) e = absurd (clash (holds κ (at l j)) (find_some κ l j e).0 (h j))
 
 -- ---- bounds
 
@@ -94,9 +92,9 @@ any_none : (κ : Key) (l : Transfers) → ((i : ℕ) → holds κ (at l i) ≡ f
 any_none κ [] e = refl
 any_none κ (x ∷ l) e = rw (e 0) (any_none κ l (λ i. e (suc i)))
 
-head_ok : (x : State) (l : Transfers) → state_ok x ≡ true → ((κ : Key) → holds κ x ≡ true → any_holds κ l ≡ false) → one_ok x l ≡ true
-head_ok Closed l a h = refl
-head_ok (Open t) l a h = both (transfer_ok t) (not (any_holds t.offer.key l)) a (ap not (h t.offer.key (keys_same t.offer.key t.offer.key refl)))
+head_ok : (x : Option Transfer) (l : Transfers) → state_ok x ≡ true → ((κ : Key) → holds κ x ≡ true → any_holds κ l ≡ false) → one_ok x l ≡ true
+head_ok None l a h = refl
+head_ok (Some t) l a h = both (transfer_ok t) (not (any_holds t.offer.key l)) a (ap not (h t.offer.key (keys_same t.offer.key t.offer.key refl)))
 
 pub transfers_ok_lem : (l : Transfers) → Unique l → AllOk l → transfers_ok l ≡ true
 transfers_ok_lem [] u a = refl
@@ -105,13 +103,13 @@ transfers_ok_lem (x ∷ l) u a =
     (head_ok x l (a 0) (λ κ e. any_none κ l (λ i. not_passed (holds κ (at l i)) (λ h. let z : 0 ≡ suc i = u 0 (suc i) κ e h in omega arith))))
     (transfers_ok_lem l (λ i j κ g h. let z : suc i ≡ suc j = u (suc i) (suc j) κ g h in omega arith) (λ i. a (suc i)))
 
-ok_head : (x : State) (l : Transfers) → one_ok x l ≡ true → state_ok x ≡ true
-ok_head Closed l e = refl
-ok_head (Open t) l e = and_elim_left (transfer_ok t) (not (any_holds t.offer.key l)) e
+ok_head : (x : Option Transfer) (l : Transfers) → one_ok x l ≡ true → state_ok x ≡ true
+ok_head None l e = refl
+ok_head (Some t) l e = and_elim_left (transfer_ok t) (not (any_holds t.offer.key l)) e
 
-alone_head : (x : State) (l : Transfers) → one_ok x l ≡ true → (κ : Key) → holds κ x ≡ true → any_holds κ l ≡ false
-alone_head Closed l e κ h = absurd (clash false h refl)
-alone_head (Open t) l e κ h =
+alone_head : (x : Option Transfer) (l : Transfers) → one_ok x l ≡ true → (κ : Key) → holds κ x ≡ true → any_holds κ l ≡ false
+alone_head None l e κ h = absurd (clash false h refl)
+alone_head (Some t) l e κ h =
     rw (← same_keys t.offer.key κ h) (not-true (any_holds t.offer.key l) (and_elim_right (transfer_ok t) (not (any_holds t.offer.key l)) e))
 
 pub ok_all : (l : Transfers) → transfers_ok l ≡ true → AllOk l
@@ -132,12 +130,12 @@ ok_unique (x ∷ l) e (suc i) (suc j) κ g h = ap suc (ok_unique l (and_elim_rig
 abbrev pub Place : Transfers → ℕ → Key → Type 0
 Place l i κ = (j : ℕ) (n : Key) → holds n (at l j) ≡ true → (j ≡ i → n ≡ κ) × (n ≡ κ → j ≡ i)
 
-module _ (l : Transfers) (κ : Key) (i : ℕ) (y : State) (low : i < length l) (u : Unique l) (place : Place l i κ) (only : OnlyFor κ y) where
+module _ (l : Transfers) (κ : Key) (i : ℕ) (y : Option Transfer) (low : i < length l) (u : Unique l) (place : Place l i κ) (only : OnlyFor κ y) where
   at_same : at (set l i y) i ≡ y
-  at_same = get_or-set_same l i y Closed low
+  at_same = get_or-set_same l i y None low
 
   at_other : (j : ℕ) → (j ≡ i → ⊥) → at (set l i y) j ≡ at l j
-  at_other j ne = get_or-set_other l i j y Closed ne
+  at_other j ne = get_or-set_other l i j y None ne
 
   abbrev Holder : ℕ → Key → Type 0
   Holder j n = ((j ≡ i) × (n ≡ κ)) ⊎ ((j ≡ i → ⊥) × (n ≡ κ → ⊥) × (holds n (at l j) ≡ true))
@@ -171,9 +169,9 @@ module _ (l : Transfers) (κ : Key) (i : ℕ) (y : State) (low : i < length l) (
       held : holds κ y ≡ true → known κ (set l i y) ≡ y
       held e = known_held κ (set l i y) set_unique i (rw at_same e) ∙ at_same
 
-      shut : (x : State) → OnlyFor κ x → holds κ x ≡ false → x ≡ Closed
-      shut Closed o e = refl
-      shut (Open t) o e = absurd (clash (same_key t.offer.key κ) (keys_same t.offer.key κ o) e)
+      shut : (x : Option Transfer) → OnlyFor κ x → holds κ x ≡ false → x ≡ None
+      shut None o e = refl
+      shut (Some t) o e = absurd (clash (same_key t.offer.key κ) (keys_same t.offer.key κ o) e)
 
       nobody : holds κ y ≡ false → (j : ℕ) → Dec (j ≡ i) → holds κ (at (set l i y) j) ≡ false
       nobody e j (yes z) = rw (z, at_same) e
@@ -189,25 +187,25 @@ module _ (l : Transfers) (κ : Key) (i : ℕ) (y : State) (low : i < length l) (
       still j e (inl z) = ne z.1
       still j e (inr z) = clash (holds n (at l j)) z.2 e
 
-      go : (f : Found) → key_place n l ≡ f → known n (set l i y) ≡ state_in f l
-      go Nothing e = known_none n (set l i y) (λ j. not_passed (holds n (at (set l i y) j)) (λ h. still j (find_none n l e j) (holder j n h)))
-      go (At j) e =
+      go : (f : Option ℕ) → key_place n l ≡ f → known n (set l i y) ≡ state_in f l
+      go None e = known_none n (set l i y) (λ j. not_passed (holds n (at (set l i y) j)) (λ h. still j (find_none n l e j) (holder j n h)))
+      go (Some j) e =
           let h : holds n (at l j) ≡ true = (find_some n l j e).0 in
           let o : at (set l i y) j ≡ at l j = at_other j (λ z. ne ((place j n h).0 z)) in
           known_held n (set l i y) set_unique j (rw o h) ∙ o
 
 -- ---- every place stays or closes
 
-module _ (f : State → State) (free : f Closed ≡ Closed) (stays : (x : State) → (f x ≡ x) ⊎ (f x ≡ Closed)) (l : Transfers) (u : Unique l) where
+module _ (f : Option Transfer → Option Transfer) (free : f None ≡ None) (stays : (x : Option Transfer) → (f x ≡ x) ⊎ (f x ≡ None)) (l : Transfers) (u : Unique l) where
   at_map : (i : ℕ) → at (map f l) i ≡ f (at l i)
-  at_map i = ap (λ (x : State). get_or (map f l) i x) (sym free) ∙ get_or-map f l i Closed
+  at_map i = ap (λ (x : Option Transfer). get_or (map f l) i x) (sym free) ∙ get_or-map f l i None
 
-  was : (κ : Key) (x : State) → holds κ (f x) ≡ true → (holds κ x ≡ true) × (f x ≡ x)
+  was : (κ : Key) (x : Option Transfer) → holds κ (f x) ≡ true → (holds κ x ≡ true) × (f x ≡ x)
   was κ x h = go (stays x)
     where
-      go : (f x ≡ x) ⊎ (f x ≡ Closed) → (holds κ x ≡ true) × (f x ≡ x)
+      go : (f x ≡ x) ⊎ (f x ≡ None) → (holds κ x ≡ true) × (f x ≡ x)
       go (inl e) = (rw e at h, e)
-      go (inr e) = absurd (clash (holds κ Closed) (rw e at h) refl)
+      go (inr e) = absurd (clash (holds κ None) (rw e at h) refl)
 
   held_before : (κ : Key) (i : ℕ) → holds κ (at (map f l) i) ≡ true → holds κ (at l i) ≡ true
   held_before κ i h = (was κ (at l i) (rw (at_map i) at h)).0
@@ -218,7 +216,7 @@ module _ (f : State → State) (free : f Closed ≡ Closed) (stays : (x : State)
   pub map_ok : AllOk l → AllOk (map f l)
   map_ok a i = rw (at_map i) (go (stays (at l i)))
     where
-      go : (f (at l i) ≡ at l i) ⊎ (f (at l i) ≡ Closed) → state_ok (f (at l i)) ≡ true
+      go : (f (at l i) ≡ at l i) ⊎ (f (at l i) ≡ None) → state_ok (f (at l i)) ≡ true
       go (inl e) = rw e (a i)
       go (inr e) = rw e
 
@@ -230,17 +228,17 @@ module _ (f : State → State) (free : f Closed ≡ Closed) (stays : (x : State)
           not_passed (holds κ (at (map f l) j))
           (λ g. clash (holds κ (at (map f l) j)) g (rw (u j i κ (held_before κ j g) h, at_map i) e))
 
-      closed : (x : State) → holds κ x ≡ true → holds κ (f x) ≡ false → f x ≡ Closed
+      closed : (x : Option Transfer) → holds κ x ≡ true → holds κ (f x) ≡ false → f x ≡ None
       closed x h e = pick (stays x)
         where
-          pick : (f x ≡ x) ⊎ (f x ≡ Closed) → f x ≡ Closed
+          pick : (f x ≡ x) ⊎ (f x ≡ None) → f x ≡ None
           pick (inl z) = absurd (clash (holds κ x) h (rw z at e))
           pick (inr z) = z
 
-      go : (g : Found) → key_place κ l ≡ g → known κ (map f l) ≡ f (state_in g l)
-      go Nothing e =
+      go : (g : Option ℕ) → key_place κ l ≡ g → known κ (map f l) ≡ f (state_in g l)
+      go None e =
           known_none κ (map f l) (λ i. not_passed (holds κ (at (map f l) i)) (λ h. clash (holds κ (at l i)) (held_before κ i h) (find_none κ l e i))) ∙ sym free
-      go (At i) e =
+      go (Some i) e =
           let h : holds κ (at l i) ≡ true = (find_some κ l i e).0 in
           by_test (holds κ (f (at l i)))
           (λ g. known_held κ (map f l) map_unique i (rw (at_map i) g) ∙ at_map i)

@@ -1,5 +1,6 @@
 -- An RTS transfer between CTSs and in a grant, whatever was asked for again. It and Sending know the sender's rules; the rest sees
 -- `waiting` and `busy` shut.
+use Rattle.std.specs.Prelude.{None, Option, Some}
 use Prim.Native.Nat.{ℕ, ◌+◌, ◌*◌, ◌-◌, ◌≤◌, ◌<◌}
 use mathlib.Core.Path.{◌≡◌, refl, ap, ◌∙◌}
 use mathlib.Core.Logic.{inl, inr}
@@ -14,10 +15,8 @@ use Rattle.transport.specs.declared.Kind.TheVariants.{Rts}
 use Rattle.transport.specs.ReadBack.{read_of}
 use Rattle.transfer.specs.declared.Course.{Course}
 use Rattle.transfer.specs.declared.Transfer.{Transfer}
-use Rattle.transfer.specs.declared.State.{State}
-use Rattle.transfer.specs.declared.State.TheVariants.{Closed, Open}
 use Rattle.transfer.specs.declared.Reply.TheVariants as reply
-use Rattle.transfer.specs.declared.Change.TheVariants.{Stays}
+use Rattle.session.specs.declared.Change.TheVariants.{Stays}
 use Rattle.transfer.specs.declared.Step.{Step}
 use Rattle.transfer.specs.Transfers.{transfer_of, announcement_of}
 use Rattle.transfer.specs.Decisions.{after, moves, after_segment, ends, next_frame, cts_open, eoma_open, hears}
@@ -59,13 +58,13 @@ course_at s mark r i g = record {
 busy_at : Setting → ℕ → ℕ → ℕ → ℕ → Transfer
 busy_at s mark r i g = record { offer = offer s; course = course_at s mark r i g }
 
-pub waiting : Setting → ℕ → ℕ → Bool → State
-waiting s mark i b = Open (waiting_at s mark i b)
+pub waiting : Setting → ℕ → ℕ → Bool → Option Transfer
+waiting s mark i b = Some (waiting_at s mark i b)
 
-pub busy : Setting → ℕ → ℕ → ℕ → ℕ → State
-busy s mark r i g = Open (busy_at s mark r i g)
+pub busy : Setting → ℕ → ℕ → ℕ → ℕ → Option Transfer
+busy s mark r i g = Some (busy_at s mark r i g)
 
-pub announced_waits : (s : Setting) → Goes Rts s.key → (last : ℕ) → Open (transfer_of (offer s) last) ≡ waiting s last 0 (again 0)
+pub announced_waits : (s : Setting) → Goes Rts s.key → (last : ℕ) → Some (transfer_of (offer s) last) ≡ waiting s last 0 (again 0)
 unfolding waiting waiting_at again
 announced_waits s goes last = rw goes
 
@@ -112,13 +111,13 @@ module _ (s : Setting) (mark last r i g : ℕ) where
 
 -- ---- an answer: the transfer that it leaves, with nothing refused and nothing sent, and whether it has ended well
 
-pub record Takes (s : Setting) (x : State) (last : ℕ) (f : Wire) (y : State) (w : Bool) : Type 0 where
+pub record Takes (s : Setting) (x : Option Transfer) (last : ℕ) (f : Wire) (y : Option Transfer) (w : Bool) : Type 0 where
   pub leaves : after x (heard s x last f).change ≡ y
   pub refuses : refusals (heard s x last f).reply ≡ []
   pub sends : queued (sends (key_in s) s.message (heard s x last f).reply) ≡ []
   pub ends : ends_well (heard s x last f) ≡ w
 
-by_step : (s : Setting) (x : State) (last : ℕ) (f : Wire) (r : Step) → heard s x last f ≡ r → refusals r.reply ≡ []
+by_step : (s : Setting) (x : Option Transfer) (last : ℕ) (f : Wire) (r : Step) → heard s x last f ≡ r → refusals r.reply ≡ []
     → queued (sends (key_in s) s.message r.reply) ≡ [] → Takes s x last f (after x r.change) (ends_well r)
 by_step s x last f r e h n = record {
   leaves = ap (λ (q : Step). after x q.change) e;
@@ -158,7 +157,7 @@ module _ (s : Setting) (fair : Fair s) (mark last i : ℕ) where
   unfolding waiting waiting_at hears eoma_open
   eoma_heard = rw (eq-eqb s.pgn s.pgn refl, eq-eqb (length s.message) (length s.message) refl, eq-eqb (count s) (count s) refl)
 
-  pub hears_well : Takes s (waiting s mark i true) last (eoma_wire s) Closed true
+  pub hears_well : Takes s (waiting s mark i true) last (eoma_wire s) None true
   hears_well =
       by_step s (waiting s mark i true) last (eoma_wire s) (ends (reply.Acknowledged (key_in s)))
       (on_eoma s fair (waiting s mark i true) last ∙ eoma_heard) refl refl
@@ -167,7 +166,7 @@ module _ (s : Setting) (fair : Fair s) (mark last i : ℕ) where
   unfolding waiting waiting_at hears
   abort_heard b c = rw (eq-eqb s.pgn s.pgn refl)
 
-  pub hears_abort : (b : Bool) (c : Cause) → Takes s (waiting s mark i b) last (abort_wire s c) Closed false
+  pub hears_abort : (b : Bool) (c : Cause) → Takes s (waiting s mark i b) last (abort_wire s c) None false
   hears_abort b c =
       by_step s (waiting s mark i b) last (abort_wire s c) (ends (reply.Aborted (key_in s)))
       (on_abort s fair (waiting s mark i b) last c ∙ abort_heard b c) refl refl

@@ -1,9 +1,9 @@
 -- A message arrives, from record to record: the theorem.
+use Rattle.std.specs.Prelude.{None, Option, Some, ℕ}
 use Prim.Native.Nat.{ℕ, ◌≤◌, ◌<◌}
 use mathlib.Core.Path.{◌≡◌, refl, sym, ap, ◌∙◌, subst}
 use mathlib.Core.Logic.{◌⊎◌}
 use mathlib.Core.Bool.{Bool, true, false, ◌&&◌}
-use mathlib.Core.Option.{Option, none, some}
 use mathlib.Core.List.{List, [], ◌∷◌}
 use native.Mathlib.Omega.{arith}
 use lib.Dec.{leb, ltb}
@@ -17,11 +17,7 @@ use Rattle.frame.specs.declared.refusal.Refusal.{Refusal}
 use Rattle.frame.specs.declared.refusal.Refusal.TheVariants.{KeyNotOpen}
 use Rattle.frame.specs.Pgn.{pgn_ok}
 use Rattle.transport.specs.Kinds.{is_rts}
-use Rattle.slots.specs.declared.Found.{Found}
-use Rattle.slots.specs.declared.Found.TheVariants.{At, Nothing}
 use Rattle.transfer.specs.declared.Transfer.{Transfer}
-use Rattle.transfer.specs.declared.State.{State}
-use Rattle.transfer.specs.declared.State.TheVariants.{Closed, Open}
 use Rattle.transfer.specs.declared.Reply.{Reply}
 use Rattle.transfer.specs.declared.Reply.TheVariants as reply
 use Rattle.transfer.specs.declared.Step.{Step}
@@ -64,8 +60,8 @@ pub record Holds (s : Setting) (y : System) : Type 0 where
 
 module _ (s : Setting) (fair : Fair s) where
   moved_reached : (x : Link) → Reached s x → (u : Option link.Move) → MovedCalm s x u → Reached s (moved s x u)
-  moved_reached x r none calm = r
-  moved_reached x r (some u) calm = reached_step s fair x r u calm
+  moved_reached x r None calm = r
+  moved_reached x r (Some u) calm = reached_step s fair x r u calm
 
   pub holds_step : (y : System) → Holds s y → (v : Move) → MeetsAt s y v → Holds s (step s y v)
   holds_step y h v m = record {
@@ -85,8 +81,8 @@ module _ (s : Setting) (fair : Fair s) where
   Falls x x' b = (b ≡ true → single.measure x' < single.measure x) × (b ≡ false → single.measure x' ≤ single.measure x)
 
   moved_falls : (x : Link) → Reached s x → (u : Option link.Move) → MovedCalm s x u → Falls x (moved s x u) (moved_works s x u)
-  moved_falls x r none calm = ((λ t. absurd (clash false t refl)), (λ t. omega arith))
-  moved_falls x r (some u) calm = (reached_arrives s fair x r).falls u calm
+  moved_falls x r None calm = ((λ t. absurd (clash false t refl)), (λ t. omega arith))
+  moved_falls x r (Some u) calm = (reached_arrives s fair x r).falls u calm
 
   measured : (y : System) (x : Link) → Stands s y x → measure s y ≡ single.measure x
   unfolding measure single.measure
@@ -112,10 +108,10 @@ module _ (s : Setting) (fair : Fair s) where
       Fine : Step → Type 0
       Fine st = is_refusal st.reply ≡ false
 
-  only_16 : (x : State) (last : ℕ) (n : Refusal) → (answered x last).reply ≡ reply.Refused n → (n ≡ KeyNotOpen) × (x ≡ Closed)
+  only_16 : (x : Option Transfer) (last : ℕ) (n : Refusal) → (answered x last).reply ≡ reply.Refused n → (n ≡ KeyNotOpen) × (x ≡ None)
   unfolding answered is_refusal
-  only_16 Closed last n e = ((cc), refl)
-  only_16 (Open t) last n e = absurd (clash (is_refusal (next_frame t last).reply) (ap is_refusal e) (next_answers t last))
+  only_16 None last n e = ((cc), refl)
+  only_16 (Some t) last n e = absurd (clash (is_refusal (next_frame t last).reply) (ap is_refusal e) (next_answers t last))
 
   pub holds_arrives : (y : System) → Holds s y → Arrives s y
   holds_arrives y h = subst (λ (x : Link). single.Arrives s x → Arrives s y) h.stands.same here (reached_arrives s fair h.link h.reached)
@@ -143,14 +139,14 @@ module _ (s : Setting) (p : Sender) (r : Receiver) (m : List ℕ) (h : Starts s 
   ready : Ready (announced_by s p).1
   ready = ready_of (announced_by s p).1 opens.ready
 
-  known_ok : (l : Transfers) → AllOk l → (f : Found) → state_ok (state_in f l) ≡ true
-  known_ok l a Nothing = refl
-  known_ok l a (At i) = a i
+  known_ok : (l : Transfers) → AllOk l → (f : Option ℕ) → state_ok (state_in f l) ≡ true
+  known_ok l a None = refl
+  known_ok l a (Some i) = a i
 
   good_offer : offer_ok (offer s) ≡ true
   good_offer =
       and_elim_left (offer_ok (offer s)) (course_ok (offer s) (transfer_of (offer s) q.last).course)
-      (subst (λ (x : State). state_ok x ≡ true) opens.here (known_ok q.transfers ready.ok (key_place (key_in s) q.transfers)))
+      (subst (λ (x : Option Transfer). state_ok x ≡ true) opens.here (known_ok q.transfers ready.ok (key_place (key_in s) q.transfers)))
 
   sim : Sim s.values r m (stands_for r m)
   sim = subst (λ (v : Values). Sim v r m (stands_for r m)) h.values (bounds_sim r m h.receiver_ready h.eight h.store)
@@ -174,13 +170,13 @@ module _ (s : Setting) (p : Sender) (r : Receiver) (m : List ℕ) (h : Starts s 
         aimed = subst (λ (a : Address). ((key_in s).da.0 ≡ a.0) ⊎ ((key_in s).da.0 ≡ 255)) its_own h.aimed;
       }
 
-  closed : (stands_for r m s.key).session ≡ none
+  closed : (stands_for r m s.key).session ≡ None
   unfolding any is_open
   closed = go (stands_for r m s.key).session (open_any s.values r m (stands_for r m) sim s.key ∙ h.unknown)
     where
-      go : (x : Option rules.Open) → is_open x ≡ false → x ≡ none
-      go none e = refl
-      go (some ρ) e = absurd (clash true refl e)
+      go : (x : Option rules.Open) → is_open x ≡ false → x ≡ None
+      go None e = refl
+      go (Some ρ) e = absurd (clash true refl e)
 
   pub stands_start : Stands s (start s p r m) (link.start s (announced_by s p).1.last r.last)
   unfolding start link.start

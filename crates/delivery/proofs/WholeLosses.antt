@@ -1,9 +1,9 @@
 -- What is lost is made good, or the message is not handed over, from record to record: the theorems of 02, E6.
+use Rattle.std.specs.Prelude.{None, Option, Some}
 use Prim.Native.Nat.{ℕ, suc, ◌≤◌, ◌<◌}
 use mathlib.Core.Path.{◌≡◌, refl, sym, ap, ◌∙◌, subst}
 use mathlib.Core.Logic.{inl, inr}
 use mathlib.Core.Bool.{Bool, true, false}
-use mathlib.Core.Option.{Option, none, some}
 use mathlib.Core.List.{List, [], ◌∷◌}
 use native.Mathlib.Omega.{arith}
 use Rattle.laws.specs.Bools.{clash}
@@ -73,18 +73,18 @@ module _ (s : Setting) (y : System) (x : Link) (h : Stands s y x) where
   at_rest : AtRest s y → single.AtRest x
   at_rest r = subst single.AtRest h.same (record { forward = r.forward; backward = r.backward; nothing = r.nothing })
 
-  ended_in : x.session ≡ none → (link_in s y).session ≡ none
+  ended_in : x.session ≡ None → (link_in s y).session ≡ None
   ended_in e = alike_none (h.world s.key).session (link_in s y).session session_alike (ap (λ (z : Link). z.session) h.same ∙ e)
 
 -- ---- a move that is borne
 
 abbrev MovedBorne : Setting → Link → Option losses.Lossy → Type 0
-MovedBorne s x none = Unit {0}
-MovedBorne s x (some u) = losses.BorneAt s x u
+MovedBorne s x None = Unit {0}
+MovedBorne s x (Some u) = losses.BorneAt s x u
 
 kept_borne : (s : Setting) (x : Link) (u : Option link.Move) → MovedCalm s x u → MovedBorne s x (kept u)
-kept_borne s x none c = tt
-kept_borne s x (some u) c = c
+kept_borne s x None c = tt
+kept_borne s x (Some u) c = c
 
 borne_as : (s : Setting) → Fair s → (y : System) (x : Link) → Stands s y x → (v : Lossy) → BorneAt s y v → MovedBorne s x (lossy_move v)
 borne_as s fair y x h (keeps v) b = kept_borne s x (link_move v) (calm_as s fair y x h v b)
@@ -103,8 +103,8 @@ all_allowed s (v ∷ vs) y (b, bs) = (borne_allows s y v b, all_allowed s vs (lo
 -- ---- the moves of the link that a run is
 
 abbrev onto : Option losses.Lossy → List losses.Lossy → List losses.Lossy
-onto none us = us
-onto (some u) us = u ∷ us
+onto None us = us
+onto (Some u) us = u ∷ us
 
 abbrev link_moves : List Lossy → List losses.Lossy
 link_moves [] = []
@@ -113,17 +113,17 @@ link_moves (v ∷ vs) = onto (lossy_move v) (link_moves vs)
 module _ (s : Setting) (x : Link) (us : List losses.Lossy) where
   run_onto : (u : Option losses.Lossy) → losses.lossy_run s (lossy_moved s x u) us ≡ losses.lossy_run s x (onto u us)
   unfolding losses.lossy_run
-  run_onto none = refl
-  run_onto (some u) = refl
+  run_onto None = refl
+  run_onto (Some u) = refl
 
   borne_onto : (u : Option losses.Lossy) → MovedBorne s x u → losses.Borne s (lossy_moved s x u) us → losses.Borne s x (onto u us)
-  borne_onto none b bs = bs
-  borne_onto (some u) b bs = (b, bs)
+  borne_onto None b bs = bs
+  borne_onto (Some u) b bs = (b, bs)
 
 losses_kept : (u : Option link.Move) (us : List losses.Lossy) → losses.losses (onto (kept u) us) ≡ losses.losses us
 unfolding losses.losses
-losses_kept none us = refl
-losses_kept (some u) us = refl
+losses_kept None us = refl
+losses_kept (Some u) us = refl
 
 losses_same : (vs : List Lossy) → losses.losses (link_moves vs) ≡ system.losses vs
 unfolding losses.losses system.losses
@@ -163,8 +163,8 @@ module _ (s : Setting) (fair : Fair s) (lost : ℕ) (y : System) (x : Link) (h :
   Falls z z' b = (b ≡ true → remaining s z' < remaining s z) × (b ≡ false → remaining s z' ≤ remaining s z)
 
   moved_falls : (u : Option losses.Lossy) → MovedBorne s x u → Falls x (lossy_moved s x u) (moved_turns s x u)
-  moved_falls none b = ((λ t. absurd (clash false t refl)), (λ t. omega arith))
-  moved_falls (some u) b = r.falls u b
+  moved_falls None b = ((λ t. absurd (clash false t refl)), (λ t. omega arith))
+  moved_falls (Some u) b = r.falls u b
 
   abbrev goes : Kind
   goes = kind_of (key_in s).da
@@ -174,8 +174,8 @@ module _ (s : Setting) (fair : Fair s) (lost : ℕ) (y : System) (x : Link) (h :
   same_refused Bam = tt
 
   moved_refuses : (u : Option losses.Lossy) → MovedBorne s x u → RefusesOnly goes s x (lossy_moved s x u)
-  moved_refuses none b = same_refused goes
-  moved_refuses (some u) b = r.refuses u b
+  moved_refuses None b = same_refused goes
+  moved_refuses (Some u) b = r.refuses u b
 
   next : (v : Lossy) → BorneAt s y v → Stands s (lossy s y v) (lossy_moved s x (lossy_move v))
   next v b = follows_lossy s fair y x h v (borne_allows s y v b)

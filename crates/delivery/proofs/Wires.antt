@@ -1,10 +1,10 @@
 -- What each frame says at the other end.
+use Rattle.std.specs.Prelude.{Err, Ok, Option, Result, None, Some}
 use Prim.Native.Nat.{ℕ, ◌+◌, ◌-◌, ◌*◌, ◌/◌, ◌%◌, ◌^◌, ◌≤◌, ◌<◌}
 use mathlib.Core.Path.{◌≡◌, refl, sym, ap, ◌∙◌}
 use mathlib.Core.Logic.{◌⊎◌, inl, inr}
 use mathlib.Core.Bool.{Bool, true, false, cond, not, ◌&&◌, ◌||◌}
 use mathlib.Mathlib.Data.Bool.Basic.{and_elim_left}
-use mathlib.Core.Option.{Option, none, some}
 use mathlib.Core.List.{List, ◌∷◌}
 use native.Mathlib.Omega.{arith}
 use lib.Dec.{eqb, leb, ltb}
@@ -16,7 +16,7 @@ use Rattle.frame.specs.declared.refusal.Refusal.{Refusal}
 use Rattle.frame.specs.declared.refusal.Refusal.TheVariants.{NotTaken, TransferLength}
 use Rattle.frame.specs.declared.identifier.Identifier.{Identifier}
 use Rattle.frame.specs.Identifiers.{identifier_of}
-use Rattle.frame.specs.declared.judge.Verdict.TheVariants.{Control, Refused}
+use Rattle.frame.specs.declared.judge.Content.TheVariants.{Control}
 use Rattle.frame.specs.Judge.{route_of, route_taken, by_format, judged}
 use Rattle.frame.specs.Lengths.{frame_length}
 use Rattle.frame.proofs.LengthLaws.{frame_least, frame_bounds}
@@ -36,7 +36,6 @@ use Rattle.transport.specs.ReadBack.{Three, low24_read_back, KeyFits, fields_to,
 use Rattle.transport.proofs.ReadBack.{read_back}
 use Rattle.session.specs.Segments.{due_of}
 use Rattle.transfer.specs.Transfers.{segments_of, announcement_of, status_of}
-use Rattle.transfer.specs.declared.State.{State}
 use Rattle.transfer.specs.Decisions.{ending_of, hears}
 use Rattle.transfer.specs.Sends.{piece_of, offer_wire, segment_wire, status_wire, abort_for}
 use Rattle.isolation.specs.Standard.{Cause, fd_lengths, is_one_of}
@@ -46,32 +45,33 @@ use Rattle.isolation.proofs.Same.{length_same, due_same}
 use Rattle.isolation.specs.Replies.{Wire, abort_frame, cts_frame, eoma_frame}
 use Rattle.delivery.specs.Link.{Setting, key_in, offer, body_for, key_number, if_for, heard}
 use Rattle.delivery.specs.Arrival.{Fair}
+use Rattle.transfer.specs.declared.Transfer.{Transfer}
 
 -- ---- control frames, as the rules read them and as transport does
 
-abbrev body_in : control-type.Control → Option Body
-body_in (control.Announce a) = some (announce a)
-body_in (control.EndOfMessage st) = some (status st)
-body_in (control.Abort pgn) = some (abort pgn)
-body_in (control.Refused n) = none
+abbrev body_in : Result control-type.Control Refusal → Option Body
+body_in (Ok (control.Announce a)) = Some (announce a)
+body_in (Ok (control.EndOfMessage st)) = Some (status st)
+body_in (Ok (control.Abort pgn)) = Some (abort pgn)
+body_in (Err n) = None
 
 control_same : (d : List ℕ) → control_body d ≡ body_in (control_of d)
 unfolding control_body control_of
 control_same d = go (eqb (length d) 12) (eqb (control_at d) 0) (eqb (control_at d) 4) (eqb (control_at d) 2) (eqb (control_at d) 15 && eqb (role_at d) 0)
   where
     go : (l r b s a : Bool)
-        → cond (not l) none
-        (cond r (some (announce (announcement_at Rts d)))
-        (cond b (some (announce (announcement_at Bam d)))
-        (cond s (some (status (status_at d)))
-        (cond a (some (abort (abort_pgn_at d)))
-        none))))
-        ≡ body_in (cond (not l) (control.Refused TransferLength)
-        (cond r (control.Announce (announcement_at Rts d))
-        (cond b (control.Announce (announcement_at Bam d))
-        (cond s (control.EndOfMessage (status_at d))
-        (cond a (control.Abort (abort_pgn_at d))
-        (control.Refused (not_receivers d)))))))
+        → cond (not l) None
+        (cond r (Some (announce (announcement_at Rts d)))
+        (cond b (Some (announce (announcement_at Bam d)))
+        (cond s (Some (status (status_at d)))
+        (cond a (Some (abort (abort_pgn_at d)))
+        None))))
+        ≡ body_in (cond (not l) (Err TransferLength)
+        (cond r (Ok (control.Announce (announcement_at Rts d)))
+        (cond b (Ok (control.Announce (announcement_at Bam d)))
+        (cond s (Ok (control.EndOfMessage (status_at d)))
+        (cond a (Ok (control.Abort (abort_pgn_at d)))
+        (Err (not_receivers d)))))))
     go false r b s a = refl
     go true true b s a = refl
     go true false true s a = refl
@@ -95,9 +95,9 @@ due_bounds total n l u = (omega arith, omega arith)
 -- the frame is the key's own, and says b
 pub record Reads (s : Setting) (f : Wire) (b : Body) : Type 0 where
   pub key : frame_key f.0 f.1 ≡ s.key
-  pub body : body_of s.values.own f.0 f.1 ≡ some b
+  pub body : body_of s.values.own f.0 f.1 ≡ Some b
 
-pub reads_for : (s : Setting) (f : Wire) (b : Body) → Reads s f b → body_for s f ≡ some b
+pub reads_for : (s : Setting) (f : Wire) (b : Body) → Reads s f b → body_for s f ≡ Some b
 unfolding body_for
 reads_for s f b h = rw (eq-eqb (frame_key f.0 f.1) s.key h.key) h.body
 
@@ -157,7 +157,7 @@ module _ (s : Setting) (fair : Fair s) where
       both _ _ (lt-ltb (id_from s pf) (2 ^ 29) (id_small pf l))
       (both _ _ e (ap fields_taken (id_here pf l) ∙ fields_taken_lem pf))
 
-  control_reads : (n : ℕ) (rest : List ℕ) (b : Body) → n < 16 → length rest ≡ 11 → body_in (control_of (head n (key_in s) ∷ rest)) ≡ some b
+  control_reads : (n : ℕ) (rest : List ℕ) (b : Body) → n < 16 → length rest ≡ 11 → body_in (control_of (head n (key_in s) ∷ rest)) ≡ Some b
       → Reads s (id_from s 77, head n (key_in s) ∷ rest) b
   unfolding body_of
   control_reads n rest b u l e =
@@ -231,7 +231,7 @@ module _ (s : Setting) (fair : Fair s) where
         let u : length (piece_of s.message n) ≤ 60 = piece_bounds.1 in
         rw long (frame_bounds (4 + length (piece_of s.message n)) (omega arith)).0
 
-    data_body_lem : data_body (frame_of n) ≡ some (segment 0 n (data_at (frame_of n)))
+    data_body_lem : data_body (frame_of n) ≡ Some (segment 0 n (data_at (frame_of n)))
     unfolding data_body segment_bytes
     data_body_lem =
         let l : 1 ≤ length (piece_of s.message n) = piece_bounds.0 in
@@ -287,7 +287,7 @@ module _ (s : Setting) (fair : Fair s) where
   pub cts_read : (n c : ℕ) → Three n → response_of (route_of (identifier_of (cts_wire s n c).0)) (cts_wire s n c).1 ≡ read_of (cts_frame s.key n c s.pgn)
   cts_read n c l = (read_back (cts_frame s.key n c s.pgn) (key_fits s fair, l, three_pgn s fair)).0
 
-  pub on_cts : (x : State) (last n c : ℕ) → Three n → heard s x last (cts_wire s n c) ≡ hears x (read_of (cts_frame s.key n c s.pgn)) last
+  pub on_cts : (x : Option Transfer) (last n c : ℕ) → Three n → heard s x last (cts_wire s n c) ≡ hears x (read_of (cts_frame s.key n c s.pgn)) last
   unfolding heard
   on_cts x last n c l = ap (if_for s.key x last) (cts_read n c l) ∙ rw (eq-eqb (key_number (key_in s)) s.key own_number)
 
@@ -295,27 +295,27 @@ module _ (s : Setting) (fair : Fair s) where
   eoma_read =
       (read_back (eoma_frame s.key (announcement_of (offer s))) (key_fits s fair, three_total s fair, three_segments s fair, three_pgn s fair)).0
 
-  pub on_eoma : (x : State) (last : ℕ) → heard s x last (eoma_wire s) ≡ hears x (read_of (eoma_frame s.key (announcement_of (offer s)))) last
+  pub on_eoma : (x : Option Transfer) (last : ℕ) → heard s x last (eoma_wire s) ≡ hears x (read_of (eoma_frame s.key (announcement_of (offer s)))) last
   unfolding heard
   on_eoma x last = ap (if_for s.key x last) eoma_read ∙ rw (eq-eqb (key_number (key_in s)) s.key own_number)
 
   pub abort_read : (c : Cause) → response_of (route_of (identifier_of (abort_wire s c).0)) (abort_wire s c).1 ≡ read_of (abort_frame s.key c s.pgn)
   abort_read c = (read_back (abort_frame s.key c s.pgn) (key_fits s fair, three_pgn s fair)).0
 
-  pub on_abort : (x : State) (last : ℕ) (c : Cause) → heard s x last (abort_wire s c) ≡ hears x (read_of (abort_frame s.key c s.pgn)) last
+  pub on_abort : (x : Option Transfer) (last : ℕ) (c : Cause) → heard s x last (abort_wire s c) ≡ hears x (read_of (abort_frame s.key c s.pgn)) last
   unfolding heard
   on_abort x last c = ap (if_for s.key x last) (abort_read c) ∙ rw (eq-eqb (key_number (key_in s)) s.key own_number)
 
   -- a response of 12 bytes is a control frame to the sender
   pub response_judged : (key_in s).da.0 ≡ s.values.own.0
-      → judged (key_in s).sa (to_originator (key_in s)) 12 ≡ Control (record { sa = (key_in s).da; da = (key_in s).sa })
+      → judged (key_in s).sa (to_originator (key_in s)) 12 ≡ Ok (Control (record { sa = (key_in s).da; da = (key_in s).sa }))
   unfolding judged id_to
   response_judged e =
       let id : ℕ = to_originator (key_in s) in
       let r : s.values.own.0 < 254 = fair.receiver in
       let small : id < 536870912 = reply_small in
       sym (else (leb 536870912 id) _ _ _ (lt-leb 536870912 id small) refl)
-      ∙ ap (λ (f : Identifier). cond (not (route_taken (key_in s).sa f)) (Refused NotTaken) (by_format f.pf (route_of f)))
+      ∙ ap (λ (f : Identifier). cond (not (route_taken (key_in s).sa f)) (Err NotTaken) (by_format f.pf (route_of f)))
       (id_read_back 77 (key_in s).sa (key_in s).da (omega arith) (key_fits s fair).sa (key_fits s fair).da)
       ∙ rw (
         eq-eqb (s.key / 4096) (s.key / 4096) refl,

@@ -1,15 +1,13 @@
 -- What the theorem says of a link that any calm moves have reached.
-use Rattle.std.specs.Prelude.{ℕ, ◌+◌, ◌-◌, ◌*◌, ◌≤◌, ◌<◌, ◌≡◌, ◌⊎◌, Bool, true, false, cond, List, [], ◌∷◌, length}
+use Rattle.std.specs.Prelude.{ℕ, ◌+◌, ◌-◌, ◌*◌, ◌≤◌, ◌<◌, ◌≡◌, ◌⊎◌, Bool, true, false, cond, List, [], ◌∷◌, length, None, Option, Some}
 use Rattle.frame.specs.Pgn.{pgn_ok}
-use Rattle.answer.specs.declared.End.TheVariants as end
-use Rattle.transfer.specs.declared.State.{State}
-use Rattle.transfer.specs.declared.State.TheVariants.{Closed, Open}
 use Rattle.transfer.specs.declared.Reply.TheVariants.{NothingDue}
 use Rattle.transfer.specs.Transfers.{kind_of, segments_of, offer_segments}
 use Rattle.transfer.specs.Decisions.{next_frame, end_at}
 use Rattle.isolation.specs.Replies.{Wire, Says, handed}
 use Rattle.isolation.specs.Rules.{judged_at}
 use Rattle.delivery.specs.Link.{Setting, key_in, Link, Move, ask, take_forward, take_backward, read_sender, read_receiver, frames_due, step}
+use Rattle.transfer.specs.declared.Transfer.{Transfer}
 
 -- ---- a message that may be announced, from one node to another or to all
 
@@ -25,9 +23,9 @@ pub record Fair (s : Setting) : Type 0 where
 
 -- ---- a reading that ends neither the transfer nor the session
 
-abbrev pub Unended : ℕ → ℕ → State → Type 0
-Unended limit t Closed = Unit {0}
-Unended limit t (Open x) = end_at limit t x ≡ end.Stays
+abbrev pub Unended : ℕ → ℕ → Option Transfer → Type 0
+Unended limit t None = Unit {0}
+Unended limit t (Some x) = end_at limit t x ≡ None
 
 abbrev pub CalmAt : Setting → Link → Move → Type 0
 CalmAt s x ask = Unit {0}
@@ -55,18 +53,18 @@ works s x (read_receiver t) = false
 
 -- ---- the measure: three for a frame that has not gone out, two for one on its way, one for an answer on its way
 
-unfoldable pub unsent : State → ℕ
-unsent Closed = 0
-unsent (Open t) = (offer_segments t.offer + 1 - t.course.next.0) + cond t.course.reported 0 1
+unfoldable pub unsent : Option Transfer → ℕ
+unsent None = 0
+unsent (Some t) = (offer_segments t.offer + 1 - t.course.next.0) + cond t.course.reported 0 1
 
 unfoldable pub measure : Link → ℕ
 measure x = 3 * unsent x.transfer + 2 * length x.forward + length x.backward
 
 -- ---- at rest: both queues empty, nothing due
 
-abbrev pub NothingIsDue : State → ℕ → Type 0
-NothingIsDue Closed last = Unit {0}
-NothingIsDue (Open t) last = (next_frame t last).reply ≡ NothingDue
+abbrev pub NothingIsDue : Option Transfer → ℕ → Type 0
+NothingIsDue None last = Unit {0}
+NothingIsDue (Some t) last = (next_frame t last).reply ≡ NothingDue
 
 pub record AtRest (x : Link) : Type 0 where
   pub forward : x.forward ≡ []

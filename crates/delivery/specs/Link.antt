@@ -1,21 +1,15 @@
 -- Sender and receiver joined by two queues of frames, moved in any order.
-use Rattle.std.specs.Prelude.{ℕ, ◌+◌, ◌*◌, Bool, true, false, cond, ◌&&◌, ◌||◌, List, [], ◌∷◌, ◌++◌, eqb, length}
-use Rattle.std.proofs.Math.Option.{Option, none, some}
+use Rattle.std.specs.Prelude.{ℕ, ◌+◌, ◌*◌, Bool, true, false, cond, ◌&&◌, ◌||◌, List, [], ◌∷◌, ◌++◌, eqb, length, Err, None, Ok, Option, Result, Some}
 use Rattle.frame.specs.declared.refusal.Refusal.TheVariants.{NotTaken, KeyNotOpen}
 use Rattle.frame.specs.Refusals.{number_of}
 use Rattle.frame.specs.Identifiers.{identifier_of}
 use Rattle.frame.specs.Judge.{route_of}
 use Rattle.transport.specs.declared.Key.{Key}
-use Rattle.transport.specs.declared.response.ResponseRead.{ResponseRead}
 use Rattle.transport.specs.declared.response.ResponseRead.TheVariants as response
 use Rattle.transport.specs.Responses.{response_of}
-use Rattle.answer.specs.declared.End.{End}
-use Rattle.answer.specs.declared.End.TheVariants as end
 use Rattle.transfer.specs.declared.Offer.{Offer}
-use Rattle.transfer.specs.declared.State.{State}
-use Rattle.transfer.specs.declared.State.TheVariants.{Closed, Open}
-use Rattle.transfer.specs.declared.Change.{Change}
-use Rattle.transfer.specs.declared.Change.TheVariants.{Stays, Opens, Moves, Ends}
+use Rattle.session.specs.declared.Change.{Change}
+use Rattle.session.specs.declared.Change.TheVariants.{Stays, Opens, Moves, Ends}
 use Rattle.transfer.specs.declared.Reply.{Reply}
 use Rattle.transfer.specs.declared.Reply.TheVariants as reply
 use Rattle.transfer.specs.declared.Step.{Step}
@@ -26,6 +20,11 @@ use Rattle.isolation.specs.OwnFrames.{key_at, frame_key, Body, body_of}
 use Rattle.isolation.specs.Replies.{Wire, Says, nothing, opened, took, granted, handed, aborted, ended, rejected, refuse}
 use Rattle.isolation.specs.Rules as rules
 use Rattle.isolation.specs.Rules.{Values, Out, rule, judged_at}
+use Rattle.answer.specs.declared.Ending.{Ending}
+use Rattle.frame.specs.declared.refusal.Refusal.{Refusal}
+use Rattle.transfer.specs.declared.Transfer.{Transfer}
+use Rattle.transport.specs.declared.response.ResponseRead.{ResponseRead}
+use Rattle.transfer.specs.declared.Course.{Course}
 
 -- the receiver's opening values, the key as a number, the sender's idle limit, the PGN and the message
 pub record Setting : Type 0 where
@@ -39,7 +38,7 @@ abbrev pub key_in : Setting → Key
 key_in s = key_at s.key
 
 pub record Link : Type 0 where
-  pub transfer : State
+  pub transfer : Option Transfer
   -- to the receiver and to the sender, the oldest first
   pub forward : List Wire
   pub backward : List Wire
@@ -66,8 +65,8 @@ pub data Move : Type 0 where
 -- ---- a step of the transfer
 
 abbrev pub queued : Option Wire → List Wire
-queued none = []
-queued (some f) = f ∷ []
+queued None = []
+queued (Some f) = f ∷ []
 
 abbrev pub refusals : Reply → List ℕ
 refusals (reply.Announced o) = []
@@ -80,7 +79,7 @@ refusals (reply.Aborted κ) = []
 refusals (reply.Ended e) = number_of e.refusal ∷ []
 refusals (reply.Refused n) = number_of n ∷ []
 
-abbrev pub is_end : Change → Bool
+abbrev pub is_end : Change Transfer Course → Bool
 is_end Stays = false
 is_end (Opens t) = false
 is_end (Moves c) = false
@@ -103,11 +102,11 @@ ends_well r = is_end r.change && is_good r.reply
 -- ---- the sender is asked
 
 -- a transfer that has ended answers 16, and nothing moves
-unfoldable pub answered : State → ℕ → Step
-answered Closed last = refused KeyNotOpen
-answered (Open t) last = next_frame t last
+unfoldable pub answered : Option Transfer → ℕ → Step
+answered None last = refused KeyNotOpen
+answered (Some t) last = next_frame t last
 
-abbrev pub frames_due : Setting → State → ℕ → List Wire
+abbrev pub frames_due : Setting → Option Transfer → ℕ → List Wire
 frames_due s x last = queued (sends (key_in s) s.message (answered x last).reply)
 
 unfoldable pub asked : Setting → Link → Link
@@ -127,11 +126,11 @@ asked s x = record {
 
 -- what a frame of the key says
 unfoldable pub body_for : Setting → Wire → Option Body
-body_for s f = cond (eqb (frame_key f.0 f.1) s.key) (body_of s.values.own f.0 f.1) none
+body_for s f = cond (eqb (frame_key f.0 f.1) s.key) (body_of s.values.own f.0 f.1) None
 
 abbrev pub by_body : Setting → Option rules.Open → ℕ → Option Body → Out
-by_body s x last none = (x, refuse (number_of NotTaken))
-by_body s x last (some b) = rule s.values s.key last false x b
+by_body s x last None = (x, refuse (number_of NotTaken))
+by_body s x last (Some b) = rule s.values s.key last false x b
 
 abbrev pub received : Setting → Option rules.Open → ℕ → Wire → Out
 received s x last f = by_body s x last (body_for s f)
@@ -174,16 +173,16 @@ abbrev pub key_number : Key → ℕ
 key_number κ = κ.sa.0 * 4096 + κ.da.0 * 16 + κ.session.0
 
 -- what is no response has no key, and `hears` refuses it
-abbrev pub is_for : ℕ → ResponseRead → Bool
-is_for k (response.Cts f) = eqb (key_number f.cts.key) k
-is_for k (response.Eoma f) = eqb (key_number f.key) k
-is_for k (response.Abort f) = eqb (key_number f.key) k
-is_for k (response.Refused n) = true
+abbrev pub is_for : ℕ → Result ResponseRead Refusal → Bool
+is_for k (Ok (response.Cts f)) = eqb (key_number f.cts.key) k
+is_for k (Ok (response.Eoma f)) = eqb (key_number f.key) k
+is_for k (Ok (response.Abort f)) = eqb (key_number f.key) k
+is_for k (Err n) = true
 
-abbrev pub if_for : ℕ → State → ℕ → ResponseRead → Step
+abbrev pub if_for : ℕ → Option Transfer → ℕ → Result ResponseRead Refusal → Step
 if_for k x last r = cond (is_for k r) (hears x r last) (refused KeyNotOpen)
 
-unfoldable pub heard : Setting → State → ℕ → Wire → Step
+unfoldable pub heard : Setting → Option Transfer → ℕ → Wire → Step
 heard s x last f = if_for s.key x last (response_of (route_of (identifier_of f.0)) f.1)
 
 unfoldable pub at_sender : Link → List Wire → Step → Link
@@ -205,16 +204,16 @@ taken_backward s x (f ∷ rest) = at_sender x rest (heard s x.transfer x.senders
 
 -- ---- readings
 
-abbrev pub unless_ended : State → End → State
-unless_ended x end.Stays = x
-unless_ended x (end.Ended e) = Closed
+abbrev pub unless_ended : Option Transfer → Option Ending → Option Transfer
+unless_ended x None = x
+unless_ended x (Some e) = None
 
-unfoldable pub kept_at : ℕ → ℕ → State → State
-kept_at limit t Closed = Closed
-kept_at limit t (Open x) = unless_ended (Open x) (end_at limit t x)
+unfoldable pub kept_at : ℕ → ℕ → Option Transfer → Option Transfer
+kept_at limit t None = None
+kept_at limit t (Some x) = unless_ended (Some x) (end_at limit t x)
 
 -- the transfer and the session as they are after it, and the last readings
-unfoldable pub read : Link → State → Option rules.Open → ℕ → ℕ → Link
+unfoldable pub read : Link → Option Transfer → Option rules.Open → ℕ → ℕ → Link
 read x transfer session p q = record {
   transfer = transfer;
   forward = x.forward;
@@ -246,10 +245,10 @@ offer s = offer_of (key_in s) s.pgn (length s.message)
 -- the announcement has gone out, and nothing else has happened; p and q are the readings before
 unfoldable pub start : Setting → ℕ → ℕ → Link
 start s p q = record {
-  transfer = Open (transfer_of (offer s) p);
+  transfer = Some (transfer_of (offer s) p);
   forward = offer_wire (offer s) ∷ [];
   backward = [];
-  session = none;
+  session = None;
   handed = [];
   refused = [];
   senders_last = p;

@@ -1,17 +1,11 @@
 -- A link that loses frames, and whose ends may fall silent: what then still holds. 02, E6.
-use Rattle.std.specs.Prelude.{ℕ, suc, ◌+◌, ◌-◌, ◌*◌, ◌≤◌, ◌<◌, ◌≡◌, ◌⊎◌, Bool, true, false, cond, not, ◌&&◌, List, [], ◌∷◌, ◌++◌, eqb, leb, length}
-use Rattle.std.proofs.Math.Option.{Option, none, some}
+use Rattle.std.specs.Prelude.{ℕ, suc, ◌+◌, ◌-◌, ◌*◌, ◌≤◌, ◌<◌, ◌≡◌, ◌⊎◌, Bool, true, false, cond, not, ◌&&◌, List, [], ◌∷◌, ◌++◌, eqb, leb, length, Err, None, Ok, Option, Result, Some}
 use Rattle.frame.specs.Identifiers.{identifier_of}
 use Rattle.frame.specs.Judge.{route_of}
 use Rattle.transport.specs.declared.Kind.{Kind}
 use Rattle.transport.specs.declared.Kind.TheVariants.{Rts, Bam}
-use Rattle.transport.specs.declared.response.ResponseRead.{ResponseRead}
 use Rattle.transport.specs.declared.response.ResponseRead.TheVariants as response
 use Rattle.transport.specs.Responses.{response_of}
-use Rattle.answer.specs.declared.End.{End}
-use Rattle.answer.specs.declared.End.TheVariants as end
-use Rattle.transfer.specs.declared.State.{State}
-use Rattle.transfer.specs.declared.State.TheVariants.{Closed, Open}
 use Rattle.transfer.specs.Transfers.{kind_of, segments_of}
 use Rattle.transfer.specs.Decisions.{end_at}
 use Rattle.transfer.specs.Sends.{ending_wire, sends}
@@ -21,6 +15,10 @@ use Rattle.isolation.specs.Rules as rules
 use Rattle.isolation.specs.Rules.{ends_at}
 use Rattle.delivery.specs.Link.{Setting, key_in, Link, Move, ask, take_forward, take_backward, read_sender, read_receiver, queued, body_for, heard, step, start}
 use Rattle.delivery.specs.Arrival.{Fair, CalmAt, is_full, works, AtRest, whole}
+use Rattle.answer.specs.declared.Ending.{Ending}
+use Rattle.frame.specs.declared.refusal.Refusal.{Refusal}
+use Rattle.transfer.specs.declared.Transfer.{Transfer}
+use Rattle.transport.specs.declared.response.ResponseRead.{ResponseRead}
 
 -- ---- moves: those of the link, whatever a reading ends, and losses
 
@@ -51,13 +49,13 @@ without_oldest (f ∷ fs) = fs
 -- ---- the Aborts of ends that end, which the calm moves of `step` do not have; they join the queue as other frames do
 
 -- a silence ends the transfer by 22: an RTS transfer sends one
-abbrev pub ending_frames : End → List Wire
-ending_frames end.Stays = []
-ending_frames (end.Ended e) = queued (ending_wire e)
+abbrev pub ending_frames : Option Ending → List Wire
+ending_frames None = []
+ending_frames (Some e) = queued (ending_wire e)
 
-abbrev pub sent_at : ℕ → ℕ → State → List Wire
-sent_at limit t Closed = []
-sent_at limit t (Open x) = ending_frames (end_at limit t x)
+abbrev pub sent_at : ℕ → ℕ → Option Transfer → List Wire
+sent_at limit t None = []
+sent_at limit t (Some x) = ending_frames (end_at limit t x)
 
 -- a frame ends the transfer by a refusal, as a CTS for what the message does not have would by 27: so too
 abbrev pub sent_after : Setting → Link → List Wire → List Wire
@@ -104,15 +102,15 @@ segments s = segments_of (length s.message)
 
 -- the session waits for segment n to grant more
 unfoldable pub is_needed : Setting → Option rules.Open → ℕ → Bool
-is_needed s none n = false
-is_needed s (some r) n = is_rts r.told.kind && eqb r.requests 0 && eqb n r.granted && not (eqb n (segments s))
+is_needed s None n = false
+is_needed s (Some r) n = is_rts r.told.kind && eqb r.requests 0 && eqb n r.granted && not (eqb n (segments s))
 
 unfoldable pub may_lose : Setting → Option rules.Open → Option Body → Bool
-may_lose s x none = false
-may_lose s x (some (announce a)) = false
-may_lose s x (some (segment format n d)) = not (is_needed s x n)
-may_lose s x (some (status st)) = false
-may_lose s x (some (abort pgn)) = false
+may_lose s x None = false
+may_lose s x (Some (announce a)) = false
+may_lose s x (Some (segment format n d)) = not (is_needed s x n)
+may_lose s x (Some (status st)) = false
+may_lose s x (Some (abort pgn)) = false
 
 abbrev pub MayLoseOldest : Setting → Option rules.Open → List Wire → Type 0
 MayLoseOldest s x [] = ⊥
@@ -146,31 +144,31 @@ turns s x loses_backward = is_full x.backward
 -- segments and an EOMS at most; each CTS that may still come 53: five requests, and before the first one a CTS for each segment not granted
 
 -- what remains of the grant, with the EOMS after it, or the EOMS alone
-unfoldable pub to_send : State → ℕ
-to_send Closed = 0
-to_send (Open t) =
+unfoldable pub to_send : Option Transfer → ℕ
+to_send None = 0
+to_send (Some t) =
     3 * (t.course.granted.0 + 1 - t.course.next.0)
     + cond (leb t.course.next.0 t.course.granted.0) 3 0
     + cond t.course.owed 3 0
 
 unfoldable pub to_answer : Setting → Option rules.Open → ℕ
-to_answer s none = 0
-to_answer s (some r) =
+to_answer s None = 0
+to_answer s (Some r) =
     cond (is_rts r.told.kind) (53 * ((5 - r.requests) + cond (eqb r.requests 0) (segments s - r.granted) 0)) 0
 
 -- all the CTSs that an announcement may bring
 abbrev pub weight_forth : Setting → Option Body → ℕ
-weight_forth s none = 2
-weight_forth s (some (announce a)) = 53 * (5 + segments s) + 2
-weight_forth s (some (segment format n d)) = 2
-weight_forth s (some (status st)) = 2
-weight_forth s (some (abort pgn)) = 2
+weight_forth s None = 2
+weight_forth s (Some (announce a)) = 53 * (5 + segments s) + 2
+weight_forth s (Some (segment format n d)) = 2
+weight_forth s (Some (status st)) = 2
+weight_forth s (Some (abort pgn)) = 2
 
-abbrev pub weight_back : ResponseRead → ℕ
-weight_back (response.Cts f) = 52
-weight_back (response.Eoma f) = 1
-weight_back (response.Abort f) = 1
-weight_back (response.Refused n) = 1
+abbrev pub weight_back : Result ResponseRead Refusal → ℕ
+weight_back (Ok (response.Cts f)) = 52
+weight_back (Ok (response.Eoma f)) = 1
+weight_back (Ok (response.Abort f)) = 1
+weight_back (Err n) = 1
 
 unfoldable pub forth : Setting → List Wire → ℕ
 forth s [] = 0
@@ -187,8 +185,8 @@ remaining s x = to_send x.transfer + to_answer s x.session + forth s x.forward +
 
 -- five requests are spent, and segments are missing
 abbrev pub Spent : Setting → Option rules.Open → Type 0
-Spent s none = ⊥
-Spent s (some r) = (r.requests ≡ 5) × (length r.pieces < segments s)
+Spent s None = ⊥
+Spent s (Some r) = (r.requests ≡ 5) × (length r.pieces < segments s)
 
 -- an RTS session refuses no frame but the EOMS with which that is so
 abbrev pub RefusesOnly : Kind → Setting → Link → Link → Type 0
@@ -217,7 +215,7 @@ pub record Recovers (s : Setting) (lost : ℕ) (x : Link) : Type 0 where
   pub falls : (v : Lossy) → BorneAt s x v
       → (turns s x v ≡ true → remaining s (lossy s x v) < remaining s x) × (turns s x v ≡ false → remaining s (lossy s x v) ≤ remaining s x)
   -- 3. at rest both ends have ended, and how
-  pub rests : AtRest x → (x.session ≡ none) × (x.transfer ≡ Closed) × Outcome (kind_of (key_in s).da) s lost x
+  pub rests : AtRest x → (x.session ≡ None) × (x.transfer ≡ None) × Outcome (kind_of (key_in s).da) s lost x
 
 -- From the announcement on, however borne moves take turns: the transfer comes to rest, and then the message has been handed over, or six
 -- segments were lost and an RTS session has ended by 21 with five requests spent, or one was and a broadcast has ended by 19 or 21.

@@ -1,10 +1,9 @@
 -- A sender's record and, at another address, a receiver's record and store, joined by two queues of frames: the calls themselves, one after
 -- another. What is counted is what concerns one transfer; the records may be busy with others.
-use Rattle.std.specs.Prelude.{ℕ, Bool, false, cond, ◌&&◌, ◌||◌, List, [], ◌∷◌, ◌++◌, length}
+use Rattle.std.specs.Prelude.{ℕ, Bool, false, cond, ◌&&◌, ◌||◌, List, [], ◌∷◌, ◌++◌, length, Option}
 use Rattle.frame.specs.declared.Address.{Address}
 use Rattle.frame.specs.declared.SessionNumber.{SessionNumber}
 use Rattle.transport.specs.declared.Key.{Key}
-use Rattle.transfer.specs.declared.State.{State}
 use Rattle.transfer.specs.declared.Reply.{Reply}
 use Rattle.transfer.specs.Sends.{sends}
 use Rattle.sender_bytes.specs.Layout.{Sender}
@@ -17,6 +16,7 @@ use Rattle.isolation.specs.Replies as replies
 use Rattle.isolation.specs.Replies.{Wire, Says, nothing, opened, took, granted, handed, aborted, ended, rejected}
 use Rattle.isolation.specs.Observe.{is_key, reply_of}
 use Rattle.delivery.specs.Link.{Setting, key_in, queued, refusals, is_good, numbers}
+use Rattle.transfer.specs.declared.Transfer.{Transfer}
 
 pub record System : Type 0 where
   pub sender : Sender
@@ -32,7 +32,7 @@ pub record System : Type 0 where
   pub well : Bool
 
 -- what the sender knows of a key
-abbrev pub state_for : Key → Sender → State
+abbrev pub state_for : Key → Sender → Option Transfer
 state_for κ p = state_in (key_place κ p.transfers) p.transfers
 
 pub data Move : Type 0 where

@@ -1,18 +1,14 @@
 -- What the theorem asks of the records and of each move, and what it says of a system that such moves have reached: 02, E2.
-use Rattle.std.specs.Prelude.{ℕ, ◌+◌, ◌*◌, ◌<◌, ◌≤◌, ◌≡◌, ◌⊎◌, Bool, true, false, ◌&&◌, List, [], ◌∷◌, length}
-use Rattle.std.proofs.Math.Option.{Option, none, some}
-use Rattle.frame.specs.declared.judge.Verdict.{Verdict}
-use Rattle.frame.specs.declared.judge.Verdict.TheVariants as verdict
+use Rattle.std.specs.Prelude.{ℕ, ◌+◌, ◌*◌, ◌<◌, ◌≤◌, ◌≡◌, ◌⊎◌, Bool, true, false, ◌&&◌, List, [], ◌∷◌, length, Err, None, Ok, Option, Result, Some, is_some}
+use Rattle.frame.specs.declared.judge.Content.TheVariants as verdict
 use Rattle.frame.specs.declared.refusal.Refusal.{Refusal}
 use Rattle.frame.specs.declared.refusal.Refusal.TheVariants.{KeyNotOpen}
 use Rattle.frame.specs.Judge.{judged}
 use Rattle.transport.specs.declared.Key.{Key}
-use Rattle.transport.specs.declared.response.ResponseRead.{ResponseRead}
 use Rattle.transport.specs.declared.response.ResponseRead.TheVariants as response
 use Rattle.transport.specs.Heads.{session_key_of}
 use Rattle.transport.specs.Responses.{response_of}
-use Rattle.slots.specs.Slots.{same_key, first_free, is_at}
-use Rattle.transfer.specs.declared.State.TheVariants.{Closed}
+use Rattle.slots.specs.Slots.{same_key, first_free}
 use Rattle.transfer.specs.declared.Reply.TheVariants.{Announced, Refused}
 use Rattle.sender_bytes.specs.Layout.{Sender}
 use Rattle.sender.specs.Transfers as sender
@@ -28,6 +24,8 @@ use Rattle.isolation.specs.Stands.{values_of}
 use Rattle.delivery.specs.Link.{Setting, key_in, body_for, offer}
 use Rattle.delivery.specs.Arrival.{Unended, NothingIsDue, is_full, unsent, whole}
 use Rattle.delivery.specs.System.{System, state_for, Move, ask, take_forward, take_backward, read_sender, read_receiver, frame_aside, announce_aside, ask_aside, hear_aside, asks_for, given, announced_by, step}
+use Rattle.frame.specs.declared.judge.Content.{Content}
+use Rattle.transport.specs.declared.response.ResponseRead.{ResponseRead}
 
 -- ---- before the start
 
@@ -52,26 +50,26 @@ pub record Starts (s : Setting) (p : Sender) (r : Receiver) (m : List ℕ) : Typ
 -- ---- through the run
 
 abbrev pub announces : Option Body → Bool
-announces none = false
-announces (some b) = is_announcement b
+announces None = false
+announces (Some b) = is_announcement b
 
 -- when the announcement is taken a slot is free
 abbrev pub HasRoom : Setting → List Wire → Receiver → Type 0
 HasRoom s [] r = Unit {0}
-HasRoom s (f ∷ fs) r = announces (body_for s f) ≡ true → is_at (first_free r.slots) ≡ true
+HasRoom s (f ∷ fs) r = announces (body_for s f) ≡ true → is_some (first_free r.slots) ≡ true
 
-abbrev pub is_response : ResponseRead → Bool
-is_response (response.Cts f) = true
-is_response (response.Eoma f) = true
-is_response (response.Abort f) = true
-is_response (response.Refused n) = false
+abbrev pub is_response : Result ResponseRead Refusal → Bool
+is_response (Ok (response.Cts f)) = true
+is_response (Ok (response.Eoma f)) = true
+is_response (Ok (response.Abort f)) = true
+is_response (Err n) = false
 
 -- a response to the transfer of a key: CTS, EOMA, or the responder's Abort
-abbrev pub responds_to : Key → Verdict → List ℕ → Bool
-responds_to κ (verdict.Control route) d = same_key (session_key_of route d) κ && is_response (response_of route d)
-responds_to κ (verdict.MultiPg route) d = false
-responds_to κ (verdict.Data route) d = false
-responds_to κ (verdict.Refused n) d = false
+abbrev pub responds_to : Key → Result Content Refusal → List ℕ → Bool
+responds_to κ (Ok (verdict.Control route)) d = same_key (session_key_of route d) κ && is_response (response_of route d)
+responds_to κ (Ok (verdict.MultiPg route)) d = false
+responds_to κ (Ok (verdict.Data route)) d = false
+responds_to κ (Err n) d = false
 
 abbrev pub MeetsAt : Setting → System → Move → Type 0
 MeetsAt s y ask = Unit {0}
@@ -117,7 +115,7 @@ pub record AtRest (s : Setting) (y : System) : Type 0 where
 pub record Arrives (s : Setting) (y : System) : Type 0 where
   -- 1. no frame out of a queue was refused at either end, and an ask is refused only with 16, once the transfer has ended
   pub unrefused : y.refused ≡ []
-  pub answered : (n : Refusal) → (asks_for s y.sender).0 ≡ Refused n → (n ≡ KeyNotOpen) × (state_for (key_in s) y.sender ≡ Closed)
+  pub answered : (n : Refusal) → (asks_for s y.sender).0 ≡ Refused n → (n ≡ KeyNotOpen) × (state_for (key_in s) y.sender ≡ None)
   -- 2. nothing was handed over for the key, or the message, once
   pub once : (y.handed ≡ []) ⊎ (y.handed ≡ whole s ∷ [])
   -- 3. every frame given or taken lowers the measure, and no other move raises it

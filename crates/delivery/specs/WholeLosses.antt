@@ -1,13 +1,9 @@
 -- The system over queues that lose frames, and whose ends may fall silent: what the theorems ask of each move, and what they say of a system
 -- that such moves have reached. 02, E6. The start is that of Whole, and but for losses and silences so are the premises.
-use Rattle.std.specs.Prelude.{ℕ, suc, ◌≤◌, ◌<◌, ◌≡◌, ◌⊎◌, Bool, true, false, cond, List, [], ◌∷◌, ◌++◌}
-use Rattle.std.proofs.Math.Option.{Option, none}
+use Rattle.std.specs.Prelude.{ℕ, suc, ◌≤◌, ◌<◌, ◌≡◌, ◌⊎◌, Bool, true, false, cond, List, [], ◌∷◌, ◌++◌, None, Option, Some}
 use Rattle.transport.specs.declared.Key.{Key}
 use Rattle.transport.specs.declared.Kind.TheVariants.{Rts}
-use Rattle.answer.specs.declared.End.{End}
-use Rattle.answer.specs.declared.End.TheVariants as end
 use Rattle.slots.specs.Slots.{same_key}
-use Rattle.transfer.specs.declared.State.TheVariants.{Closed}
 use Rattle.transfer.specs.Transfers.{kind_of}
 use Rattle.sender_bytes.specs.Layout.{Sender}
 use Rattle.sender.specs.Model as sender
@@ -22,6 +18,7 @@ use Rattle.delivery.specs.Arrival.{is_full, whole}
 use Rattle.delivery.specs.Losses.{without_oldest, ending_frames, sent_in, MayLoseOldest, remaining, RefusesOnly, HandedOver, Outcome}
 use Rattle.delivery.specs.System.{System, state_for, Move, ask, take_forward, take_backward, read_sender, read_receiver, frame_aside, announce_aside, ask_aside, hear_aside, given, start, step}
 use Rattle.delivery.specs.Whole.{Starts, MeetsAt, works, AtRest}
+use Rattle.answer.specs.declared.Ending.{Ending}
 
 -- ---- moves: those of the system, whatever a reading ends, and losses
 
@@ -47,11 +44,11 @@ queues y fs bs = record {
 -- ---- the Aborts of ends that end, which the moves of `step` do not have; they join the queue as other frames do
 
 -- a silence ends the transfer by 22: of all endings at the sender the key's
-abbrev pub ending_for : Key → End → List Wire
-ending_for κ end.Stays = []
-ending_for κ (end.Ended e) = cond (same_key e.key κ) (ending_frames (end.Ended e)) []
+abbrev pub ending_for : Key → Option Ending → List Wire
+ending_for κ None = []
+ending_for κ (Some e) = cond (same_key e.key κ) (ending_frames (Some e)) []
 
-abbrev pub endings_for : Key → List End → List Wire
+abbrev pub endings_for : Key → List (Option Ending) → List Wire
 endings_for κ [] = []
 endings_for κ (e ∷ es) = ending_for κ e ++ endings_for κ es
 
@@ -168,7 +165,7 @@ pub record Recovers (s : Setting) (lost : ℕ) (y : System) : Type 0 where
       → (turns s y v ≡ true → remaining s (link_in s (lossy s y v)) < remaining s (link_in s y))
       × (turns s y v ≡ false → remaining s (link_in s (lossy s y v)) ≤ remaining s (link_in s y))
   -- 3. at rest both ends have ended, and how
-  pub rests : AtRest s y → ((link_in s y).session ≡ none) × ((link_in s y).transfer ≡ Closed) × Outcome (kind_of (key_in s).da) s lost (link_in s y)
+  pub rests : AtRest s y → ((link_in s y).session ≡ None) × ((link_in s y).transfer ≡ None) × Outcome (kind_of (key_in s).da) s lost (link_in s y)
 
 abbrev pub RecoversWhole : Type 0
 RecoversWhole =

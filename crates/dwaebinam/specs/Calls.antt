@@ -1,8 +1,6 @@
 -- The calls over lent bytes: what each answers, and every byte that it writes.
-use Rattle.std.specs.Prelude.{ℕ, cond, not, List, eqb, length}
+use Rattle.std.specs.Prelude.{ℕ, cond, not, List, eqb, length, None, Option, Some}
 use Rattle.progress.specs.declared.wait.IdleLimits.{IdleLimits}
-use Rattle.frame.specs.declared.length.Least.{Least}
-use Rattle.frame.specs.declared.length.Least.TheVariants.{Length, Nothing}
 use Rattle.frame.specs.declared.Address.{Address}
 use Rattle.receiver.specs.Bounds.{opened, opened_with}
 use Rattle.answer.specs.Answers.{answer_number, acceptance_number}
@@ -16,9 +14,9 @@ use Rattle.answer_bytes.specs.Answers.{answer_bytes}
 abbrev pub boundary_version : ℕ
 boundary_version = 5
 
-abbrev pub least_or : Least → ℕ
-least_or (Length n) = n
-least_or Nothing = 255
+abbrev pub least_or : Option ℕ → ℕ
+least_or (Some n) = n
+least_or None = 255
 
 -- the number of an opening's answer
 abbrev pub opening_number : Address → IdleLimits → ℕ → ℕ

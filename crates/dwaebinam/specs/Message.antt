@@ -1,5 +1,5 @@
 -- A message that is handed over, copied out of the store: 01, the last paragraph of "Life of a session".
-use Rattle.std.specs.Prelude.{ℕ, ◌+◌, ◌*◌, ◌%◌, ◌≤◌, ◌<◌, ◌≡◌, refl, cond, eqb, ltb, length, get_or, drop}
+use Rattle.std.specs.Prelude.{ℕ, ◌*◌, ◌%◌, ◌≤◌, ◌<◌, ◌≡◌, refl, cond, eqb, ltb, length, get_or, drop, None, Option, Some}
 use native.Mathlib.Omega.{arith}
 use Rattle.std.proofs.Common.{sym, ◌∙◌, length-drop, length-take-le, eq-eqb, le-ltb}
 use Rattle.std.proofs.Math.Path.{ap}
@@ -7,7 +7,7 @@ use Rattle.std.proofs.Math.Bool.{not}
 use mathlib.Core.List.{List, [], ◌++◌}
 use Rattle.laws.specs.Choice.{else}
 use Rattle.answer.specs.declared.place.Place.{Place}
-use Rattle.answer.specs.declared.place.Place.TheVariants.{Message, Nowhere}
+use Rattle.answer.specs.declared.place.Place.TheVariants.{Message}
 use Rattle.answer.specs.Places.{message_cut, place_bytes}
 use Rattle.answer.specs.declared.Message as handed
 use Rattle.answer.specs.declared.Answer.TheVariants.{HandedOver}
@@ -20,11 +20,11 @@ use Rattle.answer_bytes.specs.Answers.{fields_bytes, answer_bytes}
 use Rattle.answer_bytes.specs.Sizes.{length_answer}
 
 -- An answer of code 5 says the slot and Total Bytes of its message; any other answer, or bytes that are none, no place.
-unfoldable pub place_in : List ℕ → Place
+unfoldable pub place_in : List ℕ → Option Place
 place_in a =
-    cond (not (eqb (length a) answer_length)) Nowhere
-    (cond (not (eqb (get_or a code_place 0) 5)) Nowhere
-    (Message (get_or a extra_place 0) (record { 0 = low32 a total_place })))
+    cond (not (eqb (length a) answer_length)) None
+    (cond (not (eqb (get_or a code_place 0) 5)) None
+    (Some (Message (get_or a extra_place 0) (record { 0 = low32 a total_place }))))
 
 -- no byte where the message does not lie in the store
 abbrev pub message_in : List ℕ → List ℕ → List ℕ
@@ -44,7 +44,7 @@ module _ (m : handed.Message) (store : List ℕ) (slot : m.slot < 8) (total : m.
   unfolding place_in fields_bytes
   message_in_lem =
       let s : m.slot % 256 ≡ m.slot = omega arith in
-      ap (λ (p : Place). place_bytes p [] store) (sym (else (not (eqb (length (answer_bytes (HandedOver m))) answer_length)) _ _ _ (ap not (eq-eqb _ _ (length_answer (HandedOver m)))) refl))
+      ap (λ (p : Option Place). place_bytes p [] store) (sym (else (not (eqb (length (answer_bytes (HandedOver m))) answer_length)) _ _ _ (ap not (eq-eqb _ _ (length_answer (HandedOver m)))) refl))
       ∙ ap (λ (k : ℕ). message_cut store k (low32 (answer_bytes (HandedOver m)) total_place)) s
       ∙ ap (message_cut store m.slot) (low32_read_back m.total.0 (omega arith))
       ∙ message_lies m store store slot total long

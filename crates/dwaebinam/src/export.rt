@@ -7,8 +7,9 @@ use answer::{acceptance_number, number};
 use answer_bytes::places::ANSWER_BYTES;
 use answer_bytes::write_answer;
 use engine::call::take_frame;
-use frame::Address;
-use frame::length::{Least, least_length};
+use frame::length::least_length;
+use frame::refusal::Refusal;
+use frame::{Address, refusal};
 use progress::wait::IdleLimits;
 use receiver::Receiver;
 use record_bytes::layout::write_record;
@@ -27,33 +28,27 @@ pub fn dwb_version() -> u32
 pub fn dwb_least_length(need: usize) -> usize
     ensures { result ≡ least_or (least_length need) }
 {
-    match least_length(need) {
-        Least::Length(n) => n,
-        Least::Nothing => 255,
-    }
+    least_length(need).unwrap_or(255)
 }
 
 // Opens a receiver in a buffer of RECORD_BYTES; first and second are its idle limits. An opening that is refused with 23 gives a record that
 // every call refuses; a buffer of another length stays as it was.
+#[tactic(auto, unfolding(crate::specs::Calls::opened_in))]
 pub fn dwb_open(buffer: &mut [u8], own: u8, first: u32, second: u32, reading: u32) -> u8
     ensures { (result, buffer.new) ≡ opened_in own (record { first = first; second = second }) reading buffer.old }
 {
     if buffer.len() != RECORD_BYTES {
-        return 23;
+        return refusal::number(Refusal::OutOfBounds);
     }
-    let limits = IdleLimits {
-        first: first,
-        second: second,
-    };
+    let limits = IdleLimits { first, second };
     let opened = Receiver::open(Address(own), limits, reading);
-    let receiver = opened.receiver;
-    let acceptance = opened.answer;
-    write_record(receiver, buffer);
-    acceptance_number(acceptance)
+    write_record(opened.receiver, buffer);
+    acceptance_number(opened.answer)
 }
 
 // Takes one frame: the answer's number, with the answer written, and the record and the store as the answer says. 23 with all as it was
 // where the answer's buffer has another length.
+#[tactic(auto, unfolding(crate::specs::Calls::framed_in))]
 pub fn dwb_frame(
     buffer: &mut [u8],
     id: u32,
@@ -65,7 +60,7 @@ pub fn dwb_frame(
         ≡ framed_in buffer.old id bytes.now store.old answer.old }
 {
     if answer.len() != ANSWER_BYTES {
-        return 23;
+        return refusal::number(Refusal::OutOfBounds);
     }
     let a = take_frame(buffer, id, bytes, store);
     write_answer(a, answer);

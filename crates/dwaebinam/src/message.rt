@@ -8,36 +8,28 @@ use frame::ByteCount;
 use octets::copy;
 use words::word_at;
 
-// The code of an answer that hands a message over.
+// The code of an answer that hands a message over (docs/WIRE.md).
 pub const HANDED_OVER: u8 = 5;
 
-fn slot_number(byte: u8) -> usize
-    ensures { result ≡ byte }
-{
-    byte as usize
-}
-
-// Where the message of an answer is; nowhere for an answer that hands none over.
-fn place_in(answer: &[u8]) -> Place
+// Where the message of an answer is; none for an answer that hands none over.
+#[tactic(auto, unfolding(crate::specs::Message::place_in))]
+fn place_in(answer: &[u8]) -> Option<Place>
     ensures { result ≡ place_in answer.now }
 {
-    if answer.len() != ANSWER_BYTES {
-        return Place::Nowhere;
+    if answer.len() != ANSWER_BYTES || answer[CODE_AT] != HANDED_OVER {
+        return None;
     }
-    if answer[CODE_AT] != HANDED_OVER {
-        return Place::Nowhere;
-    }
-    Place::Message {
-        slot: slot_number(answer[EXTRA_AT]),
+    Some(Place::Message {
+        slot: usize::from(answer[EXTRA_AT]),
         total: ByteCount(word_at(answer, TOTAL_AT)),
-    }
+    })
 }
 
 // Copies the message of an answer into the front of out: its length. 0, with out as it was, where there is none or out is too short.
 pub fn dwb_message(answer: &[u8], store: &[u8], out: &mut [u8]) -> usize
     ensures { (result, out.new) ≡ copied_in answer.now store.now out.old }
 {
-    let bytes = bytes_of(place_in(answer), &store[..0], store);
+    let bytes = bytes_of(place_in(answer), &[], store);
     let n = bytes.len();
     if out.len() < n {
         return 0;

@@ -4,7 +4,7 @@ ghost use Rattle.engine.specs.Missing.{missing_in};
 ghost use Rattle.dwaebinam.specs.Missing.{missing_answer};
 
 use super::pack::refused;
-use engine::missing::{Left, missing};
+use engine::missing::missing;
 use frame::{Address, SessionNumber};
 use transport::Key;
 
@@ -17,8 +17,5 @@ pub fn dwb_missing(buffer: &[u8], sa: u8, da: u8, session: u8) -> usize
         da: Address(da),
         session: SessionNumber(session),
     };
-    match missing(buffer, key) {
-        Left::Segments(n) => n as usize,
-        Left::Refused(x) => refused(x),
-    }
+    missing(buffer, key).map_or_else(refused, |n| n as usize)
 }

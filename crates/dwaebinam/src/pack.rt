@@ -5,16 +5,16 @@ ghost use Rattle.dwaebinam.specs.Packing.{packed_in};
 
 use frame::refusal;
 use frame::refusal::Refusal;
-use packing::{Packed, pack};
+use packing::Request;
 
 // A refusal in place of a length or a count, above all of them.
 pub fn refused(x: Refusal) -> usize
     ensures { result ≡ 256 * number_of x }
 {
-    256 * (refusal::number(x) as usize)
+    256 * usize::from(refusal::number(x))
 }
 
-// Packs groups into the front of out: the frame's length, or 256 times the number of the refusal.
+// Packs groups into the front of out: the frame's length, or 256 times the number of the refusal. C lends each list of the request by itself.
 pub fn dwb_pack(
     services: &[u8],
     formats: &[u8],
@@ -35,10 +35,14 @@ pub fn dwb_pack(
       assured = assured.now;
     }) out.old }
 {
-    match pack(
-        services, formats, pgns, lengths, trailers, data, assured, out,
-    ) {
-        Packed::Frame(n) => n,
-        Packed::Refused(x) => refused(x),
-    }
+    let request = Request {
+        services,
+        formats,
+        pgns,
+        lengths,
+        trailers,
+        data,
+        assured,
+    };
+    request.pack(out).unwrap_or_else(refused)
 }

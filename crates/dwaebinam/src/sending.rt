@@ -4,7 +4,8 @@ ghost use Rattle.dwaebinam.specs.Sending.{sender_opened_in, announced_in, asked_
 
 use answer::acceptance_number;
 use answer_bytes::places::ANSWER_BYTES;
-use frame::{Address, SessionNumber};
+use frame::refusal::Refusal;
+use frame::{Address, SessionNumber, refusal};
 use reply_bytes::ends::{TRANSFER_ANSWERS_BYTES, write_ends};
 use reply_bytes::{number, write_reply, write_sent};
 use sender::announce::announce;
@@ -12,6 +13,7 @@ use sender::ask::next_frame;
 use sender::hear::take_frame;
 use sender::open::open;
 use sender::reading::take_reading;
+use sender_bytes::places::TRANSFERS;
 
 // Opens a sender in a buffer of a record's length. An opening that is refused with 23 gives a record that every call refuses; a buffer of
 // another length stays as it was.
@@ -22,6 +24,7 @@ pub fn dwb_sender_open(buffer: &mut [u8], own: u8, limit: u32, reading: u32) -> 
 }
 
 // Announces a message: the RTS or BAM is laid into out. 23 with all as it was where the answer's buffer has another length.
+#[tactic(auto, unfolding(crate::specs::Sending::announced_in))]
 pub fn dwb_announce(
     buffer: &mut [u8],
     da: u8,
@@ -35,7 +38,7 @@ pub fn dwb_announce(
         ≡ announced_in buffer.old da session pgn message.now out.old answer.old }
 {
     if answer.len() != ANSWER_BYTES {
-        return 23;
+        return refusal::number(Refusal::OutOfBounds);
     }
     let sent = announce(
         buffer,
@@ -45,12 +48,12 @@ pub fn dwb_announce(
         message,
         out,
     );
-    let reply = sent.reply;
     write_sent(sent, answer);
-    number(reply)
+    number(sent.reply)
 }
 
 // The next frame of a transfer, laid into out, or nothing due.
+#[tactic(auto, unfolding(crate::specs::Sending::asked_in))]
 pub fn dwb_next_frame(
     buffer: &mut [u8],
     da: u8,
@@ -63,20 +66,20 @@ pub fn dwb_next_frame(
         ≡ asked_in buffer.old da session message.now out.old answer.old }
 {
     if answer.len() != ANSWER_BYTES {
-        return 23;
+        return refusal::number(Refusal::OutOfBounds);
     }
     let sent = next_frame(buffer, Address(da), SessionNumber(session), message, out);
-    let reply = sent.reply;
     write_sent(sent, answer);
-    number(reply)
+    number(sent.reply)
 }
 
 // Takes one control frame where there is no receiver beside the sender.
+#[tactic(auto, unfolding(crate::specs::Sending::heard_in))]
 pub fn dwb_sender_frame(buffer: &mut [u8], id: u32, bytes: &[u8], answer: &mut [u8]) -> u8
     ensures { (result, (buffer.new, answer.new)) ≡ heard_in buffer.old id bytes.now answer.old }
 {
     if answer.len() != ANSWER_BYTES {
-        return 23;
+        return refusal::number(Refusal::OutOfBounds);
     }
     let reply = take_frame(buffer, id, bytes);
     write_reply(reply, answer);
@@ -84,15 +87,21 @@ pub fn dwb_sender_frame(buffer: &mut [u8], id: u32, bytes: &[u8], answer: &mut [
 }
 
 // Takes one reading: an answer for each transfer that has ended.
+#[tactic(auto, unfolding(crate::specs::Sending::sender_read_in))]
 pub fn dwb_sender_reading(buffer: &mut [u8], reading: u32, answers: &mut [u8]) -> u8
     ensures { (result, (buffer.new, answers.new)) ≡ sender_read_in buffer.old reading answers.old }
 {
     if answers.len() != TRANSFER_ANSWERS_BYTES {
-        return 23;
+        return refusal::number(Refusal::OutOfBounds);
     }
-    let taken = take_reading(buffer, reading);
-    let acceptance = taken.answer;
-    let ends = taken.ends;
-    write_ends(ends, answers);
-    acceptance_number(acceptance)
+    match take_reading(buffer, reading) {
+        Ok(ends) => {
+            write_ends(ends, answers);
+            0
+        }
+        Err(n) => {
+            write_ends([None; TRANSFERS], answers);
+            refusal::number(n)
+        }
+    }
 }

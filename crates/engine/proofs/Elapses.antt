@@ -1,4 +1,5 @@
 -- What a reading wrote into the buffer, slot by slot, beside what the receiver's reading says.
+use Rattle.std.specs.Prelude.{Err, None, Ok, Option, Some}
 use Prim.Native.Nat.{ℕ, ◌+◌, ◌<◌}
 use native.Mathlib.Omega.{arith}
 use mathlib.Core.Path.{◌≡◌, refl, sym, ap, subst, ◌∙◌}
@@ -13,17 +14,10 @@ use Rattle.laws.specs.Maps.{filled, filled_turn, filled_all}
 use Rattle.frame.specs.declared.refusal.Refusal.TheVariants.{OutOfBounds}
 use Rattle.session.specs.declared.Session.{Session}
 use Rattle.session.specs.Decisions.{end_at}
-use Rattle.slots.specs.declared.Slot.{Slot}
-use Rattle.session.specs.declared.State.{State}
-use Rattle.session.specs.declared.State.TheVariants.{Closed, Open}
 use Rattle.progress.specs.declared.wait.IdleLimits.{IdleLimits}
 use Rattle.slots.specs.Slots.{free_slot}
-use Rattle.answer.specs.declared.End.{End}
-use Rattle.answer.specs.declared.End.TheVariants as end
 use Rattle.answer.specs.declared.Ending.{Ending}
-use Rattle.answer.specs.declared.Acceptance.TheVariants as acceptance
-use Rattle.answer.specs.declared.SlotEnd.{SlotEnd}
-use Rattle.receiver.specs.Calls.{is_ready, after_end, expired_state, expired, end_of, slot_end, stays, reading_kept, reading_step}
+use Rattle.receiver.specs.Calls.{is_ready, after_end, expired, end_of, stays, reading_kept, reading_step}
 use Rattle.record_bytes.specs.Places.{record_length, head_length, slot_length, last_place, state_place, slot_place}
 use Rattle.record_bytes.specs.Layout.{slot_at, pieces_of, slots_at, record_at}
 use Rattle.words.specs.Words.{low4}
@@ -50,37 +44,37 @@ module _ (b : List ℕ) (i : ℕ) (limits : IdleLimits) (t : ℕ) (low : i < 8) 
   abbrev piece : List ℕ
   piece = get_or (pieces_of b) i []
 
-  abbrev state : State
-  state = (get_or (slots_at b) i free_slot).state
+  abbrev state : Option Session
+  state = (get_or (slots_at b) i free_slot)
 
-  abbrev by : State → SlotEnd × List ℕ
-  by st = (record { end = end_of limits t st }, paste b at (kept piece (record { state = expired_state limits t st })) slot_length)
+  abbrev by : Option Session → Option Ending × List ℕ
+  by st = ((end_of limits t st), paste b at (kept piece (expired limits t st)) slot_length)
 
   -- the slot as it was read
-  same : (st : State) → state ≡ st → paste b at (kept piece (record { state = st })) slot_length ≡ b
+  same : (st : Option Session) → state ≡ st → paste b at (kept piece st) slot_length ≡ b
   same st e =
-      ap (λ (x : State). paste b at (kept piece (record { state = x })) slot_length) (sym e ∙ ap (λ (s : Slot). s.state) (slot_of_lem b i))
+      ap (λ (x : Option Session). paste b at (kept piece x) slot_length) (sym e ∙ (slot_of_lem b i))
       ∙ ap (λ (l : List ℕ). paste b at l slot_length) (kept_same piece g ∙ piece_of b i low)
       ∙ paste_own b at slot_length (omega arith)
 
-  pub free_stays : state ≡ Closed → ◌≡◌ {A = SlotEnd × List ℕ} (stays, b) (slot_elapsed b i limits t)
-  free_stays e = ap (λ (l : List ℕ). (stays, l)) (sym (same Closed e)) ∙ ap by (sym e)
+  pub free_stays : state ≡ None → ◌≡◌ {A = (Option Ending) × List ℕ} (stays, b) (slot_elapsed b i limits t)
+  free_stays e = ap (λ (l : List ℕ). (stays, l)) (sym (same None e)) ∙ ap by (sym e)
 
-  module _ (s : Session) (e : state ≡ Open s) (z : End) (ez : z ≡ end_at limits t s) where
-    abbrev open_by : End → SlotEnd × List ℕ
-    open_by u = (record { end = u }, paste b at (kept piece (record { state = after_end u (Open s) })) slot_length)
+  module _ (s : Session) (e : state ≡ Some s) (z : Option Ending) (ez : z ≡ end_at limits t s) where
+    abbrev open_by : Option Ending → Option Ending × List ℕ
+    open_by u = (u, paste b at (kept piece (after_end u (Some s))) slot_length)
 
-    pub open_stays : z ≡ end.Stays → ◌≡◌ {A = SlotEnd × List ℕ} (stays, b) (slot_elapsed b i limits t)
+    pub open_stays : z ≡ None → ◌≡◌ {A = (Option Ending) × List ℕ} (stays, b) (slot_elapsed b i limits t)
     open_stays h =
-        ap (λ (l : List ℕ). (stays, l)) (sym (same (Open s) e))
+        ap (λ (l : List ℕ). (stays, l)) (sym (same (Some s) e))
         ∙ ap open_by (sym h ∙ ez)
         ∙ ap by (sym e)
 
-    pub open_ends : (d : Ending) → z ≡ end.Ended d → (o : List ℕ) → o ≡ paste b at (replicate slot_length 0) slot_length
-        → ◌≡◌ {A = SlotEnd × List ℕ} (record { end = end.Ended d }, o) (slot_elapsed b i limits t)
+    pub open_ends : (d : Ending) → z ≡ Some d → (o : List ℕ) → o ≡ paste b at (replicate slot_length 0) slot_length
+        → ◌≡◌ {A = (Option Ending) × List ℕ} ((Some d), o) (slot_elapsed b i limits t)
     open_ends d h o p =
-        let one : get_or piece state_place 0 ≡ 1 = eqb-true _ _ (open_code piece s (eqb (get_or piece state_place 0) 1) refl (sym (ap (λ (x : Slot). x.state) (slot_of_lem b i)) ∙ e)) in
-        let w : SlotEnd = record { end = end.Ended d } in
+        let one : get_or piece state_place 0 ≡ 1 = eqb-true _ _ (open_code piece s (eqb (get_or piece state_place 0) 1) refl (sym (slot_of_lem b i) ∙ e)) in
+        let w : Option Ending = Some d in
         ap (λ (l : List ℕ). (w, l)) (p ∙ ap (λ (u : Bool). paste b at (cond u piece (replicate slot_length 0)) slot_length) (sym (ne_eqb (get_or piece state_place 0) 0 (λ q. omega arith))))
         ∙ ap open_by (sym h ∙ ez)
         ∙ ap by (sym e)
@@ -88,7 +82,7 @@ module _ (b : List ℕ) (i : ℕ) (limits : IdleLimits) (t : ℕ) (low : i < 8) 
 -- ---- a turn over the slots: b₀ is the buffer as it was, b as it is
 
 module _ (b₀ : List ℕ) (limits : IdleLimits) (t : ℕ) where
-  abbrev pub slots_after : List Slot
+  abbrev pub slots_after : List (Option Session)
   slots_after = map (expired limits t) (slots_at b₀)
 
   after_eight : length slots_after ≡ 8
@@ -104,17 +98,17 @@ module _ (b₀ : List ℕ) (limits : IdleLimits) (t : ℕ) where
     one_slot : get_or (slots_at b) i free_slot ≡ get_or (slots_at b₀) i free_slot
     one_slot = slot_of_lem b i ∙ ap slot_at one_piece ∙ sym (slot_of_lem b₀ i)
 
-    module _ (x : SlotEnd) (o : List ℕ) (e : ◌≡◌ {A = SlotEnd × List ℕ} (x, o) (slot_elapsed b i limits t)) where
+    module _ (x : Option Ending) (o : List ℕ) (e : ◌≡◌ {A = (Option Ending) × List ℕ} (x, o) (slot_elapsed b i limits t)) where
       put_slot_after : o ≡ paste b (slot_place i) (kept (get_or (pieces_of b) i []) (get_or slots_after i free_slot)) slot_length
       put_slot_after =
-          ap (λ (y : SlotEnd × List ℕ). y.1) e
-          ∙ ap (λ (s : Slot). paste b (slot_place i) (kept (get_or (pieces_of b) i []) s) slot_length) (ap (expired limits t) one_slot ∙ sym (get_or-map (expired limits t) (slots_at b₀) i free_slot))
+          ap (λ (y : Option Ending × List ℕ). y.1) e
+          ∙ ap (λ (s : Option Session). paste b (slot_place i) (kept (get_or (pieces_of b) i []) s) slot_length) (ap (expired limits t) one_slot ∙ sym (get_or-map (expired limits t) (slots_at b₀) i free_slot))
 
-      pub turn_end : (ends ends₀ : List SlotEnd) → length ends₀ ≡ 8 → ends ≡ filled (slot_end limits t) (slots_at b₀) ends₀ i → set ends i x ≡ filled (slot_end limits t) (slots_at b₀) ends₀ (i + 1)
+      pub turn_end : (ends ends₀ : List (Option Ending)) → length ends₀ ≡ 8 → ends ≡ filled (end_of limits t) (slots_at b₀) ends₀ i → set ends i x ≡ filled (end_of limits t) (slots_at b₀) ends₀ (i + 1)
       turn_end ends ends₀ eight q =
-          let f : Slot → SlotEnd = slot_end limits t in
-          ap (λ (l : List SlotEnd). set l i x) q
-          ∙ ap (λ (y : SlotEnd). set (filled f (slots_at b₀) ends₀ i) i y) (ap (λ (y : SlotEnd × List ℕ). y.0) e ∙ ap f one_slot)
+          let f : Option Session → Option Ending = end_of limits t in
+          ap (λ (l : List (Option Ending)). set l i x) q
+          ∙ ap (λ (y : Option Ending). set (filled f (slots_at b₀) ends₀ i) i y) (ap (λ (y : Option Ending × List ℕ). y.0) e ∙ ap f one_slot)
           ∙ filled_turn f (slots_at b₀) ends₀ i free_slot stays (omega (arith, length_slots b₀)) (omega arith)
 
       pub turn_long : length o ≡ record_length
@@ -128,19 +122,19 @@ module _ (b₀ : List ℕ) (limits : IdleLimits) (t : ℕ) where
       turn_same = keeps_same slots_after b₀ b o i free_slot after_eight long low put_slot_after same
 
   -- after the last slot
-  pub turns_done : (b : List ℕ) (i : ℕ) (ends : List SlotEnd) → length b ≡ record_length → i ≡ 8 → ends ≡ filled (slot_end limits t) (slots_at b₀) (replicate 8 stays) i
+  pub turns_done : (b : List ℕ) (i : ℕ) (ends : List (Option Ending)) → length b ≡ record_length → i ≡ 8 → ends ≡ filled (end_of limits t) (slots_at b₀) (replicate 8 stays) i
       → take (slot_place i) b ++ merged (drop i (pieces_of b₀)) (drop i slots_after) ≡ take head_length b₀ ++ merged (pieces_of b₀) slots_after
-      → ◌≡◌ {A = List SlotEnd × List ℕ} (ends, b) (slots_elapsed b₀ limits t)
+      → ◌≡◌ {A = List (Option Ending) × List ℕ} (ends, b) (slots_elapsed b₀ limits t)
   turns_done b i ends long e q inv =
-      let f : Slot → SlotEnd = slot_end limits t in
-      let o : List SlotEnd = replicate 8 stays in
-      ap (λ (l : List SlotEnd). (l, b)) (q ∙ ap (filled f (slots_at b₀) o) e ∙ filled_all f (slots_at b₀) o 8 (length_slots b₀) refl)
+      let f : Option Session → Option Ending = end_of limits t in
+      let o : List (Option Ending) = replicate 8 stays in
+      ap (λ (l : List (Option Ending)). (l, b)) (q ∙ ap (filled f (slots_at b₀) o) e ∙ filled_all f (slots_at b₀) o 8 (length_slots b₀) refl)
       ∙ ap (λ (l : List ℕ). (map f (slots_at b₀), l)) (keeps_all slots_after b b₀ _ i after_eight long e inv)
 
 -- ---- the whole reading: w is the code's test for 23
 
 module _ (b : List ℕ) (t : ℕ) (m : List ℕ) (w : Bool) (ew : w ≡ ready_in b (length m)) where
-  pub reading_refused : not w ≡ true → ◌≡◌ {A = ReadingAnswer × List ℕ} (record { answer = acceptance.Refused OutOfBounds; ends = replicate 8 stays }, b) (reading_in b t m)
+  pub reading_refused : not w ≡ true → ◌≡◌ {A = ReadingAnswer × List ℕ} (record { answer = Err OutOfBounds; ends = replicate 8 stays }, b) (reading_in b t m)
   unfolding reading_in
   reading_refused h = else (ready_in b (length m)) _ _ _ (sym ew ∙ not-true _ h) refl
 
@@ -157,14 +151,14 @@ module _ (b : List ℕ) (t : ℕ) (m : List ℕ) (w : Bool) (ew : w ≡ ready_in
         then (ready_in b (length m)) _ _ _ (sym ew ∙ not-false _ h)
         (ap (elapsed_in b) (then (is_ready (record_at b) m) _ _ _ (ready_step b m (sym ew ∙ not-false _ h)) refl))
 
-    pub reading_kept_lem : Bytes b → (limits : IdleLimits) (x : List SlotEnd) (o₁ o₂ : List ℕ) → limits ≡ (record_at b).limits
-        → ◌≡◌ {A = List SlotEnd × List ℕ} (x, o₁) (slots_elapsed b limits t) → o₂ ≡ paste o₁ last_place (low4 t []) 4
-        → ◌≡◌ {A = ReadingAnswer × List ℕ} (record { answer = acceptance.Accepted; ends = x }, o₂) (reading_in b t m)
+    pub reading_kept_lem : Bytes b → (limits : IdleLimits) (x : List (Option Ending)) (o₁ o₂ : List ℕ) → limits ≡ (record_at b).limits
+        → ◌≡◌ {A = List (Option Ending) × List ℕ} (x, o₁) (slots_elapsed b limits t) → o₂ ≡ paste o₁ last_place (low4 t []) 4
+        → ◌≡◌ {A = ReadingAnswer × List ℕ} (record { answer = (Ok tt); ends = x }, o₂) (reading_in b t m)
     reading_kept_lem y limits x o₁ o₂ el e e₂ =
-        let f : List SlotEnd × List ℕ → ReadingAnswer × List ℕ =
-        λ (z : List SlotEnd × List ℕ). (record { answer = acceptance.Accepted; ends = z.0 }, paste z.1 last_place (low4 t []) 4) in
-        let a : ReadingAnswer = record { answer = acceptance.Accepted; ends = map (slot_end (record_at b).limits t) (slots_at b) } in
-        ap (λ (l : List ℕ). (record { answer = acceptance.Accepted; ends = x }, l)) e₂
+        let f : List (Option Ending) × List ℕ → ReadingAnswer × List ℕ =
+        λ (z : List (Option Ending) × List ℕ). (record { answer = (Ok tt); ends = z.0 }, paste z.1 last_place (low4 t []) 4) in
+        let a : ReadingAnswer = record { answer = (Ok tt); ends = map (end_of (record_at b).limits t) (slots_at b) } in
+        ap (λ (l : List ℕ). (record { answer = (Ok tt); ends = x }, l)) e₂
         ∙ ap f (e ∙ ap (λ (n : IdleLimits). slots_elapsed b n t) el)
         ∙ ap (λ (l : List ℕ). (a, l)) (put_elapsed b y reading_ready.codes t (map (expired (record_at b).limits t) (slots_at b)))
         ∙ kept_in_lem

@@ -1,4 +1,5 @@
 -- A frame by its verdict, with the buffer around the receiver's step.
+use Rattle.std.specs.Prelude.{Result}
 use Prim.Native.Nat.{ℕ}
 use mathlib.Core.Path.{◌≡◌, refl, sym, ap, ◌∙◌}
 use mathlib.Core.Bool.{Bool, true, false, not, ◌&&◌}
@@ -10,7 +11,6 @@ use Rattle.laws.specs.Choice.{then, else, each_of}
 use Rattle.frame.specs.Judge.{judged}
 use Rattle.frame.specs.declared.Address.{Address}
 use Rattle.frame.specs.declared.judge.Route.{Route}
-use Rattle.frame.specs.declared.judge.Verdict.{Verdict}
 use Rattle.frame.specs.declared.refusal.Refusal.TheVariants.{OutOfBounds}
 use Rattle.multi_pg.specs.Groups.{GroupsRead, good, bad, judgement_of}
 use Rattle.answer.specs.declared.Answer.{Answer}
@@ -23,6 +23,8 @@ use Rattle.record_bytes.specs.Kept.{Bytes}
 use Rattle.record_bytes.proofs.Kept.{keep}
 use Rattle.lent_record.specs.Ready.{ready_in, Ready, ready_of}
 use Rattle.engine.specs.InBytes.{Holds, InBytes, groups_answer, outcome_in, frame_in}
+use Rattle.frame.specs.declared.judge.Content.{Content}
+use Rattle.frame.specs.declared.refusal.Refusal.{Refusal}
 
 pub ready_step : (b m : List ℕ) → ready_in b (length m) ≡ true → is_ready (record_at b) m ≡ true
 unfolding ready_in
@@ -44,13 +46,13 @@ module _ (b : List ℕ) (id : ℕ) (d m : List ℕ) (t : Bool) (et : t ≡ ready
     unfolding frame_in
     by_whole x e = then (ready_in b (length m)) _ _ _ (sym et ∙ not-false _ h) e
 
-    pub by_verdict_lem : (own : Address) (v z : Verdict) (x : InBytes) → own.0 ≡ get_or b own_place 0 → v ≡ judged own id (length d) → v ≡ z
+    pub by_verdict_lem : (own : Address) (v z : Result Content Refusal) (x : InBytes) → own.0 ≡ get_or b own_place 0 → v ≡ judged own id (length d) → v ≡ z
         → x ≡ outcome_in b (on_verdict z (record_at b) d m) → x ≡ frame_in b id d m
     unfolding frame_all
     by_verdict_lem own v z x eo ev ez e =
         by_whole x
         (e
-        ∙ ap (λ (w : Verdict). outcome_in b (on_verdict w (record_at b) d m)) (sym ez ∙ ev ∙ ap (λ (n : ℕ). judged (record { 0 = n }) id (length d)) eo)
+        ∙ ap (λ (w : Result Content Refusal). outcome_in b (on_verdict w (record_at b) d m)) (sym ez ∙ ev ∙ ap (λ (n : ℕ). judged (record { 0 = n }) id (length d)) eo)
         ∙ ap (outcome_in b) (then (is_ready (record_at b) m) _ _ _ (ready_step b m (sym et ∙ not-false _ h)) refl))
 
 -- what leaves the record as it is

@@ -9,42 +9,33 @@ ghost use Rattle.record_bytes.specs.Places.{record_length};
 ghost use Rattle.engine.specs.InBytes.{Holds, stepped_in};
 
 use answer::Answer;
+use progress::Progress;
+use record_bytes::places::RECORD_BYTES;
 use record_bytes::put::{put_progress, put_slot};
-use session::{Change, State, Step};
-use slots::{Found, Slot};
+use session::{Change, Session, Step};
 
 // A change of the session in slot i. What was announced stays where a session moves on: only its progress is written.
-fn put_change(buffer: &mut [u8], i: usize, change: Change)
-    requires { (i < 8) × (length buffer.old ≡ record_length) × Holds buffer.old × MeetsOpen change (get_or (slots_at buffer.old) i free_slot).state }
+fn put_change(buffer: &mut [u8; RECORD_BYTES], i: usize, change: Change<Session, Progress>)
+    requires { (i < 8) × Holds buffer.old × MeetsOpen change (get_or (slots_at buffer.old) i free_slot) }
     ensures { buffer.new ≡ put_in buffer.old (calls.applied (record_at buffer.old) i change) }
 {
     match change {
         Change::Stays => {}
-        Change::Opens(s) => {
-            let opened = Slot {
-                state: State::Open(s),
-            };
-            put_slot(buffer, i, opened);
-        }
+        Change::Opens(s) => put_slot(buffer, i, Some(s)),
         Change::Moves(p) => put_progress(buffer, i, p),
-        Change::Ends => {
-            let free = Slot {
-                state: State::Closed,
-            };
-            put_slot(buffer, i, free);
-        }
+        Change::Ends => put_slot(buffer, i, None),
     }
 }
 
 // A step of the session in the slot that was found; where none was, nothing is written.
-pub fn apply(buffer: &mut [u8], f: Found, step: Step) -> Answer
-    requires { (length buffer.old ≡ record_length) × Holds buffer.old × Within f 8 × MeetsOpen step.change (state_in f (slots_at buffer.old)) }
+pub fn apply(buffer: &mut [u8; RECORD_BYTES], f: Option<usize>, step: Step) -> Answer
+    requires { Holds buffer.old × Within f 8 × MeetsOpen step.change (state_in f (slots_at buffer.old)) }
     ensures { (result, buffer.new) ≡ stepped_in buffer.old (calls.apply (record_at buffer.old) f step) }
 {
     let change = step.change;
     match f {
-        Found::At(i) => put_change(buffer, i, change),
-        Found::Nothing => {}
+        Some(i) => put_change(buffer, i, change),
+        None => {}
     }
     step.answer
 }

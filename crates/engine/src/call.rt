@@ -7,32 +7,33 @@ ghost use Rattle.engine.specs.InBytes.{groups_answer, frame_in};
 use super::control::control;
 use super::segment::data_frame;
 use answer::Answer;
-use frame::judge::{Route, Verdict, judge};
+use frame::judge::{Content, Route, judge};
 use frame::refusal::Refusal;
-use lent_record::ready::{is_ready, own_of};
-use multi_pg::{Judgement, read};
+use lent_record::ready::{is_in_bounds, own_of};
+use multi_pg::read;
+use record_bytes::places::RECORD_BYTES;
 
 // A Multi-PG frame, judged whole; the record is not looked at.
 fn groups(route: Route, bytes: &[u8]) -> Answer
     ensures { result ≡ groups_answer (judgement_of (groups_read bytes.now)) route }
 {
     match read::judge(bytes) {
-        Judgement::Good => Answer::Groups(route),
-        Judgement::Refused(n) => Answer::Refused(n),
+        Ok(()) => Answer::Groups(route),
+        Err(n) => Answer::Refused(n),
     }
 }
 
 // Takes one frame, of a record that is in bounds and a store of its length: 2, 1, 3, then 9 and the rest by kind.
-fn take_ready(buffer: &mut [u8], id: u32, bytes: &[u8], store: &mut [u8]) -> Answer
+fn take_ready(buffer: &mut [u8; RECORD_BYTES], id: u32, bytes: &[u8], store: &mut [u8]) -> Answer
     requires { ready_in buffer.old (length store.old) ≡ true }
     ensures { (result, (buffer.new, store.new)) ≡ frame_in buffer.old id bytes.now store.old }
 {
     let own = own_of(buffer);
     match judge(id, bytes.len(), own) {
-        Verdict::MultiPg(route) => groups(route, bytes),
-        Verdict::Control(route) => control(buffer, route, bytes),
-        Verdict::Data(route) => data_frame(buffer, route, bytes, store),
-        Verdict::Refused(n) => Answer::Refused(n),
+        Ok(Content::MultiPg(route)) => groups(route, bytes),
+        Ok(Content::Control(route)) => control(buffer, route, bytes),
+        Ok(Content::Data(route)) => data_frame(buffer, route, bytes, store),
+        Err(n) => Answer::Refused(n),
     }
 }
 
@@ -40,8 +41,13 @@ fn take_ready(buffer: &mut [u8], id: u32, bytes: &[u8], store: &mut [u8]) -> Ans
 pub fn take_frame(buffer: &mut [u8], id: u32, bytes: &[u8], store: &mut [u8]) -> Answer
     ensures { (result, (buffer.new, store.new)) ≡ frame_in buffer.old id bytes.now store.old }
 {
-    if !is_ready(buffer, store.len()) {
-        return Answer::Refused(Refusal::OutOfBounds);
+    match buffer.as_mut_array::<RECORD_BYTES>() {
+        Some(record) => {
+            if !is_in_bounds(record, store.len()) {
+                return Answer::Refused(Refusal::OutOfBounds);
+            }
+            take_ready(record, id, bytes, store)
+        }
+        None => Answer::Refused(Refusal::OutOfBounds),
     }
-    take_ready(buffer, id, bytes, store)
 }

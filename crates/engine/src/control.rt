@@ -10,9 +10,8 @@ use super::apply::apply;
 use answer::Answer;
 use frame::judge::Route;
 use lent_record::search::{slot_for, state_in};
-use record_bytes::places::LAST_AT;
+use record_bytes::places::{LAST_AT, RECORD_BYTES};
 use session::{announcement, end};
-use slots::{Found, is_at};
 use transport::Key;
 use transport::announcement::Announcement;
 use transport::control::{Control, read_control};
@@ -21,29 +20,29 @@ use transport::head::key_of;
 use words::word_at;
 
 // The slot's number, for the place of a message's bytes.
-fn slot_of(f: Found) -> usize
+fn slot_of(f: Option<usize>) -> usize
     ensures { result ≡ slot_of f }
 {
     match f {
-        Found::At(i) => i,
-        Found::Nothing => 0,
+        Some(i) => i,
+        None => 0,
     }
 }
 
 // An RTS or a BAM of the key; a session that it opens is marked with the last reading.
-fn announce(buffer: &mut [u8], k: Key, a: Announcement) -> Answer
-    requires { (length buffer.old ≡ record_length) × Holds buffer.old }
+fn announce(buffer: &mut [u8; RECORD_BYTES], k: Key, a: Announcement) -> Answer
+    requires { Holds buffer.old }
     ensures { (result, buffer.new) ≡ stepped_in buffer.old (announce_step (record_at buffer.old) k a) }
 {
     let f = slot_for(buffer, k);
     let x = state_in(buffer, f);
-    let step = announcement::announce(x, is_at(f), k, a, word_at(buffer, LAST_AT));
+    let step = announcement::announce(x, f.is_some(), k, a, word_at(buffer, LAST_AT));
     apply(buffer, f, step)
 }
 
 // An EOMS of the key; a session that asks for missing segments is marked with the last reading.
-fn status(buffer: &mut [u8], k: Key, st: Status) -> Answer
-    requires { (length buffer.old ≡ record_length) × Holds buffer.old }
+fn status(buffer: &mut [u8; RECORD_BYTES], k: Key, st: Status) -> Answer
+    requires { Holds buffer.old }
     ensures { (result, buffer.new) ≡ stepped_in buffer.old (status_step (record_at buffer.old) k st) }
 {
     let f = slot_for(buffer, k);
@@ -53,8 +52,8 @@ fn status(buffer: &mut [u8], k: Key, st: Status) -> Answer
 }
 
 // An originator's Abort of the key.
-fn abort(buffer: &mut [u8], k: Key, pgn: u32) -> Answer
-    requires { (length buffer.old ≡ record_length) × Holds buffer.old }
+fn abort(buffer: &mut [u8; RECORD_BYTES], k: Key, pgn: u32) -> Answer
+    requires { Holds buffer.old }
     ensures { (result, buffer.new) ≡ stepped_in buffer.old (abort_step (record_at buffer.old) k pgn) }
 {
     let f = slot_for(buffer, k);
@@ -63,15 +62,15 @@ fn abort(buffer: &mut [u8], k: Key, pgn: u32) -> Answer
     apply(buffer, f, step)
 }
 
-pub fn control(buffer: &mut [u8], route: Route, bytes: &[u8]) -> Answer
-    requires { (length buffer.old ≡ record_length) × Holds buffer.old }
+pub fn control(buffer: &mut [u8; RECORD_BYTES], route: Route, bytes: &[u8]) -> Answer
+    requires { Holds buffer.old }
     ensures { (result, buffer.new) ≡ stepped_in buffer.old (control_step (record_at buffer.old) route bytes.now) }
 {
     let k = key_of(route, bytes);
     match read_control(bytes) {
-        Control::Announce(a) => announce(buffer, k, a),
-        Control::EndOfMessage(st) => status(buffer, k, st),
-        Control::Abort(pgn) => abort(buffer, k, pgn),
-        Control::Refused(n) => Answer::Refused(n),
+        Ok(Control::Announce(a)) => announce(buffer, k, a),
+        Ok(Control::EndOfMessage(st)) => status(buffer, k, st),
+        Ok(Control::Abort(pgn)) => abort(buffer, k, pgn),
+        Err(n) => Answer::Refused(n),
     }
 }

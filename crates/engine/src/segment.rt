@@ -16,13 +16,13 @@ use answer::Answer;
 use frame::SegmentNumber;
 use frame::judge::Route;
 use lent_record::search::{find_key, state_in};
-use record_bytes::places::LAST_AT;
-use session::{Change, Session, State, segment};
-use slots::Found;
+use progress::Progress;
+use record_bytes::places::{LAST_AT, RECORD_BYTES};
+use session::{Change, Session, segment};
 use slots::store::store_segment;
 use transport::Key;
 use transport::head::key_of;
-use transport::segment::{DataFrame, Segment, read_segment};
+use transport::segment::{Segment, read_segment};
 use words::word_at;
 
 // The data due of segment n, to its place in slot i.
@@ -37,28 +37,32 @@ fn store_due(store: &mut [u8], i: usize, s: Session, n: SegmentNumber, bytes: &[
 }
 
 // A segment that moves its session on is one that was taken: only its data is stored.
-fn store_taken(store: &mut [u8], change: Change, f: Found, x: State, n: SegmentNumber, bytes: &[u8])
+fn store_taken(
+    store: &mut [u8],
+    change: Change<Session, Progress>,
+    f: Option<usize>,
+    x: Option<Session>,
+    n: SegmentNumber,
+    bytes: &[u8],
+)
     requires { Within f 8 × PlacedBy change x n.0 bytes.now × (length store.old ≡ 32768) }
     ensures { store.new ≡ stored_by change f x n.0 bytes.now store.old }
 {
-    match change {
-        Change::Moves(_) => match f {
-            Found::At(i) => match x {
-                State::Open(s) => store_due(store, i, s, n, bytes),
-                State::Closed => {}
-            },
-            Found::Nothing => {}
-        },
-        Change::Stays => {}
-        Change::Opens(_) => {}
-        Change::Ends => {}
+    if let (Change::Moves(_), Some(i), Some(s)) = (change, f, x) {
+        store_due(store, i, s, n, bytes);
     }
 }
 
 // A segment of the key. One whose key is not open changes nothing, so no free slot is looked for.
-fn segment(buffer: &mut [u8], k: Key, sg: Segment, bytes: &[u8], store: &mut [u8]) -> Answer
+fn segment(
+    buffer: &mut [u8; RECORD_BYTES],
+    k: Key,
+    sg: Segment,
+    bytes: &[u8],
+    store: &mut [u8],
+) -> Answer
     requires { (in_bounds (record_at buffer.old) ≡ true) × (sg.number.0 < 16777216) × (4 + sg.room ≤ length bytes.now)
-        × (length store.old ≡ 32768) × (length buffer.old ≡ record_length) × Holds buffer.old }
+        × (length store.old ≡ 32768) × Holds buffer.old }
     ensures { (result, (buffer.new, store.new))
         ≡ outcome_in buffer.old (segment_step (record_at buffer.old) k sg bytes.now store.old) }
 {
@@ -71,8 +75,13 @@ fn segment(buffer: &mut [u8], k: Key, sg: Segment, bytes: &[u8], store: &mut [u8
     apply(buffer, f, step)
 }
 
-pub fn data_frame(buffer: &mut [u8], route: Route, bytes: &[u8], store: &mut [u8]) -> Answer
-    requires { (in_bounds (record_at buffer.old) ≡ true) × (length store.old ≡ 32768) × (length buffer.old ≡ record_length) × Holds buffer.old }
+pub fn data_frame(
+    buffer: &mut [u8; RECORD_BYTES],
+    route: Route,
+    bytes: &[u8],
+    store: &mut [u8],
+) -> Answer
+    requires { (in_bounds (record_at buffer.old) ≡ true) × (length store.old ≡ 32768) × Holds buffer.old }
     ensures { (result, (buffer.new, store.new))
         ≡ outcome_in buffer.old
         (on_data (data_frame_of bytes.now) (record_at buffer.old) (key_of route bytes.now) bytes.now
@@ -80,7 +89,7 @@ pub fn data_frame(buffer: &mut [u8], route: Route, bytes: &[u8], store: &mut [u8
 {
     let k = key_of(route, bytes);
     match read_segment(bytes) {
-        DataFrame::Segment(sg) => segment(buffer, k, sg, bytes, store),
-        DataFrame::Refused(n) => Answer::Refused(n),
+        Ok(sg) => segment(buffer, k, sg, bytes, store),
+        Err(n) => Answer::Refused(n),
     }
 }

@@ -1,14 +1,12 @@
 -- The first of the lengths that holds a need is the least one that does, because the list rises.
-use Rattle.std.specs.Prelude.{ℕ, ◌+◌, ◌≤◌, ◌<◌, ◌≡◌, refl, Bool, true, false, cond, ◌&&◌, List, [], ◌∷◌, eqb, leb}
+use Rattle.std.specs.Prelude.{ℕ, ◌+◌, ◌≤◌, ◌<◌, ◌≡◌, refl, Bool, true, false, cond, ◌&&◌, List, [], ◌∷◌, eqb, leb, None, Option, Some, unwrap_or}
 use Rattle.std.proofs.Math.Decide.{dec_le}
 use Rattle.std.proofs.Common.{arith, sym, ⊎_elim, eqb-true, leb-true, leb-false, eq-eqb}
 use Rattle.std.proofs.lemmas.Bool.{false≢true}
 use mathlib.Mathlib.Data.Bool.Basic.{or_inr}
 use Rattle.laws.specs.Bools.{or_either}
 use Rattle.laws.specs.Choice.{or_stop, each_of}
-use Rattle.frame.specs.Lengths.{lengths, among, is_length, first_holding, least_length, frame_length}
-use Rattle.frame.specs.declared.length.Least.{Least}
-use Rattle.frame.specs.declared.length.Least.TheVariants.{Length, Nothing}
+use Rattle.frame.specs.Lengths.{lengths, among, is_length, first_holding, least_length, holding, frame_length}
 use Rattle.frame.specs.LengthLaws.{LeastOf}
 
 -- each is at least the one before, the first at least lo, the last at most hi
@@ -35,17 +33,17 @@ within lo (n ∷ ns) hi m r a =
     (or_either (eqb m n) (among m ns) a)
 
 -- an answer to a need: the least of the list that holds it, or none where every one is too small
-abbrev AnswerOf : List ℕ → ℕ → Least → Type 0
-AnswerOf ns need (Length n) = LeastOf ns need n
-AnswerOf ns need Nothing = (m : ℕ) → among m ns ≡ true → m < need
+abbrev AnswerOf : List ℕ → ℕ → Option ℕ → Type 0
+AnswerOf ns need (Some n) = LeastOf ns need n
+AnswerOf ns need None = (m : ℕ) → among m ns ≡ true → m < need
 
-too_small : (need n : ℕ) (ns : List ℕ) (l : Least) → leb need n ≡ false → AnswerOf ns need l → AnswerOf (n ∷ ns) need l
-too_small need n ns (Length k) h f = record {
+too_small : (need n : ℕ) (ns : List ℕ) (l : Option ℕ) → leb need n ≡ false → AnswerOf ns need l → AnswerOf (n ∷ ns) need l
+too_small need n ns (Some k) h f = record {
   holds = f.holds;
   member = or_inr (eqb k n) (among k ns) f.member;
   least = λ m a g. ⊎_elim (λ e. absurd (omega (arith, eqb-true m n e, leb-false need n h))) (λ e. f.least m e g) (or_either (eqb m n) (among m ns) a);
 }
-too_small need n ns Nothing h f = λ m a. ⊎_elim (λ e. omega (arith, eqb-true m n e, leb-false need n h)) (λ e. f m e) (or_either (eqb m n) (among m ns) a)
+too_small need n ns None h f = λ m a. ⊎_elim (λ e. omega (arith, eqb-true m n e, leb-false need n h)) (λ e. f m e) (or_either (eqb m n) (among m ns) a)
 
 -- of a rising list, the first that holds the need is the answer
 first_least : (lo : ℕ) (ns : List ℕ) (hi need : ℕ) → rising lo ns hi ≡ true → AnswerOf ns need (first_holding need ns)
@@ -53,7 +51,7 @@ first_least lo [] hi need r = λ m a. absurd (false≢true a)
 first_least lo (n ∷ ns) hi need r = go (leb need n) refl (rises lo n ns hi r).1 (first_least n ns hi need (rises lo n ns hi r).1)
   where
     go : (t : Bool) → leb need n ≡ t → rising n ns hi ≡ true → AnswerOf ns need (first_holding need ns)
-        → AnswerOf (n ∷ ns) need (cond t (Length n) (first_holding need ns))
+        → AnswerOf (n ∷ ns) need (cond t (Some n) (first_holding need ns))
     go true h s f = record {
       holds = leb-true need n h;
       member = sym (or_stop (eqb n n) (among n ns) (eq-eqb n n refl));
@@ -62,6 +60,10 @@ first_least lo (n ∷ ns) hi need r = go (leb need n) refl (rises lo n ns hi r).
     go false h s f = too_small need n ns (first_holding need ns) h f
 
 -- ---- the lengths
+
+pub or_longest : (l : Option ℕ) → unwrap_or l 64 ≡ holding l
+or_longest None = refl
+or_longest (Some n) = refl
 
 lengths_rise : rising 0 lengths 64 ≡ true
 lengths_rise = refl
@@ -72,15 +74,15 @@ length_to m e = (within 0 lengths 64 m lengths_rise e).1
 -- 02, E3: up to 64 bytes there is a length; it is one of the list, it holds the need, and no smaller one of the list does. Above 64 there
 -- is none
 pub least_length_lem : (need : ℕ)
-    → (need ≤ 64 → (n : ℕ) × (least_length need ≡ Length n) × LeastOf lengths need n)
-    × (64 < need → least_length need ≡ Nothing)
+    → (need ≤ 64 → (n : ℕ) × (least_length need ≡ Some n) × LeastOf lengths need n)
+    × (64 < need → least_length need ≡ None)
 least_length_lem need = go (least_length need) (first_least 0 lengths 64 need lengths_rise)
   where
-    go : (l : Least) → AnswerOf lengths need l
-        → (need ≤ 64 → (n : ℕ) × (l ≡ Length n) × LeastOf lengths need n)
-        × (64 < need → l ≡ Nothing)
-    go (Length n) f = (λ h. (n, refl, f), λ h. absurd (omega (arith, f.holds, length_to n f.member)))
-    go Nothing f = (λ h. absurd (omega (arith, f 64 refl)), λ h. refl)
+    go : (l : Option ℕ) → AnswerOf lengths need l
+        → (need ≤ 64 → (n : ℕ) × (l ≡ Some n) × LeastOf lengths need n)
+        × (64 < need → l ≡ None)
+    go (Some n) f = (λ h. (n, refl, f), λ h. absurd (omega (arith, f.holds, length_to n f.member)))
+    go None f = (λ h. absurd (omega (arith, f 64 refl)), λ h. refl)
 
 -- the length of a frame holds what the frame is for
 pub frame_least : (need : ℕ) → need ≤ 64 → LeastOf lengths need (frame_length need)

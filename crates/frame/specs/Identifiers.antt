@@ -1,8 +1,6 @@
 -- The 29-bit identifier: 01, "Identifier".
-use Rattle.std.specs.Prelude.{ℕ, ◌+◌, ◌*◌, ◌/◌, ◌%◌, cond, leb}
+use Rattle.std.specs.Prelude.{ℕ, ◌+◌, ◌*◌, ◌/◌, ◌%◌, cond, leb, None, Option, Some}
 use Rattle.frame.specs.declared.identifier.Identifier.{Identifier}
-use Rattle.frame.specs.declared.identifier.Built.{Built}
-use Rattle.frame.specs.declared.identifier.Built.TheVariants.{Id, Nothing}
 
 -- from the top: priority 3 bits, extended data page 1, data page 1, PF 8, PS 8, SA 8
 abbrev pub identifier_of : ℕ → Identifier
@@ -26,9 +24,9 @@ id_of f =
     + 256 * f.ps
     + f.sa.0
 
-abbrev pub built : Identifier → Built
+abbrev pub built : Identifier → Option ℕ
 built f =
-    cond (leb 8 f.priority) Nothing
-    (cond (leb 2 f.extended_data_page) Nothing
-    (cond (leb 2 f.data_page) Nothing
-    (Id (id_of f))))
+    cond (leb 8 f.priority) None
+    (cond (leb 2 f.extended_data_page) None
+    (cond (leb 2 f.data_page) None
+    (Some (id_of f))))

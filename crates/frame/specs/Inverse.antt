@@ -1,11 +1,9 @@
 -- An identifier read and built: each is the other's inverse on its range.
-use Rattle.std.specs.Prelude.{ℕ, ◌+◌, ◌*◌, ◌/◌, ◌%◌, ◌<◌, ◌^◌, ◌≡◌, refl, leb, Bool, true, false, cond}
+use Rattle.std.specs.Prelude.{ℕ, ◌+◌, ◌*◌, ◌/◌, ◌%◌, ◌<◌, ◌≡◌, refl, leb, Bool, true, false, cond, None, Some}
 use Rattle.std.proofs.Common.{sym, ap, ◌∙◌, arith, leb-false}
 use Rattle.std.proofs.lemmas.Bool.{lt-leb}
-use Rattle.laws.specs.Choice.{then, else}
+use Rattle.laws.specs.Choice.{else}
 use Rattle.frame.specs.declared.identifier.Identifier.{Identifier}
-use Rattle.frame.specs.declared.identifier.Built.{Built}
-use Rattle.frame.specs.declared.identifier.Built.TheVariants.{Id, Nothing}
 use Rattle.frame.specs.Identifiers.{identifier_of, id_of, built}
 
 -- places of a number to the bases of the identifier's fields
@@ -20,13 +18,13 @@ sum_back id h =
     (omega arith) (omega arith) (omega arith) (omega arith) (omega arith) (omega arith)
 
 -- what was read from 29 bits builds the same identifier
-pub built_of_read : (id : ℕ) → id < 536870912 → built (identifier_of id) ≡ Id id
+pub built_of_read : (id : ℕ) → id < 536870912 → built (identifier_of id) ≡ Some id
 built_of_read id h =
     sym
     (else (leb 8 (id / 67108864 % 8)) _ _ _ (lt-leb 8 (id / 67108864 % 8) (omega arith))
     (else (leb 2 (id / 33554432 % 2)) _ _ _ (lt-leb 2 (id / 33554432 % 2) (omega arith))
     (else (leb 2 (id / 16777216 % 2)) _ _ _ (lt-leb 2 (id / 16777216 % 2) (omega arith))
-    (ap Id (sym (sum_back id h))))))
+    (ap Some (sym (sum_back id h))))))
 
 -- PF, PS and SA are bytes; the other fields are no larger than their places
 pub record Bytes (f : Identifier) : Type 0 where
@@ -51,11 +49,11 @@ read_of_id f b r =
     same_fields _ f.priority _ f.extended_data_page _ f.data_page _ f.pf _ f.ps _ f.sa.0
     (omega arith) (omega arith) (omega arith) (omega arith) (omega arith) (omega arith)
 
-in_range : (f : Identifier) (n : ℕ) → built f ≡ Id n → Ranged f × (n ≡ id_of f)
+in_range : (f : Identifier) (n : ℕ) → built f ≡ Some n → Ranged f × (n ≡ id_of f)
 in_range f n e = go (leb 8 f.priority) refl (leb 2 f.extended_data_page) refl (leb 2 f.data_page) refl e
   where
     go : (p : Bool) → leb 8 f.priority ≡ p → (x : Bool) → leb 2 f.extended_data_page ≡ x → (y : Bool) → leb 2 f.data_page ≡ y
-        → cond p Nothing (cond x Nothing (cond y Nothing (Id (id_of f)))) ≡ Id n → Ranged f × (n ≡ id_of f)
+        → cond p None (cond x None (cond y None (Some (id_of f)))) ≡ Some n → Ranged f × (n ≡ id_of f)
     go true a x b y c e = absurd (let z : ◌≡◌ {A = ℕ} 0 1 = cc in omega arith)
     go false a true b y c e = absurd (let z : ◌≡◌ {A = ℕ} 0 1 = cc in omega arith)
     go false a false b true c e = absurd (let z : ◌≡◌ {A = ℕ} 0 1 = cc in omega arith)
@@ -63,7 +61,7 @@ in_range f n e = go (leb 8 f.priority) refl (leb 2 f.extended_data_page) refl (l
         (record { priority = leb-false 8 f.priority a; extended = leb-false 2 f.extended_data_page b; page = leb-false 2 f.data_page c }, cc)
 
 -- what was built reads back to its fields
-pub read_of_built : (f : Identifier) (n : ℕ) → Bytes f → built f ≡ Id n → identifier_of n ≡ f
+pub read_of_built : (f : Identifier) (n : ℕ) → Bytes f → built f ≡ Some n → identifier_of n ≡ f
 read_of_built f n b e =
     let r : Ranged f × (n ≡ id_of f) = in_range f n e in
     ap identifier_of r.1 ∙ read_of_id f b r.0

@@ -3,7 +3,6 @@ ghost use Rattle.std.specs.Prelude.{◌≡◌};
 ghost use Rattle.frame.specs.Identifiers.{identifier_of, built};
 
 use super::Address;
-use super::octet::wide;
 
 #[derive(Clone, Copy)]
 pub struct Identifier {
@@ -29,32 +28,25 @@ pub fn read(id: u32) -> Identifier
     }
 }
 
-#[derive(Clone, Copy)]
-pub enum Built {
-    Id(u32),
-    // a field is larger than its place
-    Nothing,
-}
-
-// The identifier that has these fields. Our own frames are made by transport::head, whose fronts are fixed.
-pub fn build(f: Identifier) -> Built
+// The identifier that has these fields; none where a field is larger than its place. Our own frames are made by transport::head, whose fronts are fixed.
+pub fn build(f: Identifier) -> Option<u32>
     ensures { result ≡ built f }
 {
     if 8 <= f.priority {
-        return Built::Nothing;
+        return None;
     }
     if 2 <= f.extended_data_page {
-        return Built::Nothing;
+        return None;
     }
     if 2 <= f.data_page {
-        return Built::Nothing;
+        return None;
     }
-    Built::Id(
-        67108864 * wide(f.priority)
-            + 33554432 * wide(f.extended_data_page)
-            + 16777216 * wide(f.data_page)
-            + 65536 * wide(f.pf)
-            + 256 * wide(f.ps)
-            + wide(f.sa.0),
+    Some(
+        67108864 * u32::from(f.priority)
+            + 33554432 * u32::from(f.extended_data_page)
+            + 16777216 * u32::from(f.data_page)
+            + 65536 * u32::from(f.pf)
+            + 256 * u32::from(f.ps)
+            + u32::from(f.sa.0),
     )
 }

@@ -7,21 +7,21 @@ use super::refusal::Refusal;
 use super::{Address, identifier, length};
 
 // Where a frame comes from and where it goes.
-#[derive(Clone, Copy)]
+#[derive(Clone, Copy, PartialEq, Eq)]
 pub struct Route {
     pub sa: Address,
     pub da: Address,
 }
 
+// What a frame that is taken carries.
 #[derive(Clone, Copy)]
-pub enum Verdict {
+pub enum Content {
     // PF 37, PGN 9472: groups
     MultiPg(Route),
     // PF 77, PGN 19712: FD.TP.CM
     Control(Route),
     // PF 78, PGN 19968: FD.TP.DT
     Data(Route),
-    Refused(Refusal),
 }
 
 // Whether the page bits are 0, DA is the own address or 255, and SA is neither 254, 255 nor the own address.
@@ -37,34 +37,35 @@ pub fn route_taken(f: Identifier, own: Address) -> bool
 }
 
 // What a frame of the PF carries.
-pub fn by_format(pf: u8, route: Route) -> Verdict
+#[tactic(auto, unfolding(crate::specs::Judge::by_format))]
+pub fn by_format(pf: u8, route: Route) -> Result<Content, Refusal>
     ensures { result ≡ by_format pf route }
 {
     match pf {
-        37 => Verdict::MultiPg(route),
-        77 => Verdict::Control(route),
-        78 => Verdict::Data(route),
-        _ => Verdict::Refused(Refusal::NotTaken),
+        37 => Ok(Content::MultiPg(route)),
+        77 => Ok(Content::Control(route)),
+        78 => Ok(Content::Data(route)),
+        _ => Err(Refusal::NotTaken),
     }
 }
 
 // The verdict on a frame's identifier and its number of data bytes.
-pub fn judge(id: u32, bytes: usize, own: Address) -> Verdict
+#[tactic(auto, unfolding(crate::specs::Judge::judged))]
+pub fn judge(id: u32, bytes: usize, own: Address) -> Result<Content, Refusal>
     ensures { result ≡ judged own id bytes }
 {
     if 536870912 <= id {
-        return Verdict::Refused(Refusal::IdentifierRange);
+        return Err(Refusal::IdentifierRange);
     }
     if !length::is_length(bytes) {
-        return Verdict::Refused(Refusal::FrameLength);
+        return Err(Refusal::FrameLength);
     }
     let f = identifier::read(id);
     if !route_taken(f, own) {
-        return Verdict::Refused(Refusal::NotTaken);
+        return Err(Refusal::NotTaken);
     }
-    let sa = f.sa;
     let route = Route {
-        sa: sa,
+        sa: f.sa,
         da: Address(f.ps),
     };
     by_format(f.pf, route)

@@ -2,13 +2,6 @@
 ghost use Rattle.std.specs.Prelude.{◌≡◌, ◌+◌, ◌%◌, ◌<◌, length};
 ghost use Rattle.frame.specs.Octets.{low24};
 
-// A byte as a wider number.
-pub fn wide(x: u8) -> u32
-    ensures { (result ≡ x) × (result < 256) }
-{
-    x as u32
-}
-
 // The lowest byte of a number.
 pub fn low_byte(x: u32) -> u8
     ensures { result ≡ x % 256 }
@@ -21,5 +14,5 @@ pub fn low24_at(s: &[u8], at: usize) -> u32
     requires { at + 2 < length s.now }
     ensures { (result ≡ low24 s.now at) × (result < 16777216) }
 {
-    wide(s[at]) + 256 * wide(s[at + 1]) + 65536 * wide(s[at + 2])
+    u32::from(s[at]) + 256 * u32::from(s[at + 1]) + 65536 * u32::from(s[at + 2])
 }

@@ -1,8 +1,8 @@
 -- What an announcement comes to by the rules, in three cases: what is shown of each holds of every announcement.
+use Rattle.std.specs.Prelude.{None, Option, Some}
 use Prim.Native.Nat.{ℕ}
 use mathlib.Core.Path.{◌≡◌}
 use mathlib.Core.Bool.{Bool, false, not}
-use mathlib.Core.Option.{Option, none, some}
 use lib.Dec.{eqb, ltb}
 use Rattle.frame.specs.declared.Address.{Address}
 use Rattle.transport.specs.declared.announcement.Announcement.{Announcement}
@@ -20,8 +20,8 @@ pub data Comes (k last : ℕ) (x : Option Open) (a : Announcement) : Out → Typ
 module _ (k last : ℕ) (a : Announcement) where
   by_session : (eight : Bool) (x : Option Open) → bad_numbers a ≡ false → Comes k last x a (admitted k last eight x a)
   unfolding admitted
-  by_session eight none good = either_way (Comes k last none a) eight (λ _. refused _) (λ _. accepted good)
-  by_session eight (some ρ) good = either_way (Comes k last (some ρ) a) (starts_anew a ρ) (λ _. accepted good) (λ _. refused _)
+  by_session eight None good = either_way (Comes k last None a) eight (λ _. refused _) (λ _. accepted good)
+  by_session eight (Some ρ) good = either_way (Comes k last (Some ρ) a) (starts_anew a ρ) (λ _. accepted good) (λ _. refused _)
 
   pub comes : (own : Address) (eight : Bool) (x : Option Open) → Comes k last x a (announced own k last eight x a)
   unfolding announced

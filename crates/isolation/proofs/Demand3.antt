@@ -1,4 +1,5 @@
 -- Demand 3 of document 01, whole: no session can disturb another. A key is written as its number, 4,096 SA + 16 DA + session.
+use Rattle.std.specs.Prelude.{Ok}
 use Prim.Native.Nat.{ℕ, ◌+◌, ◌*◌, ◌<◌}
 use mathlib.Core.Path.{◌≡◌, refl, sym, ◌∙◌}
 use mathlib.Core.Bool.{true}
@@ -7,7 +8,6 @@ use lib.ListN.{length, replicate, length-replicate}
 use Rattle.progress.specs.declared.wait.IdleLimits.{IdleLimits}
 use Rattle.frame.specs.declared.Address.{Address}
 use Rattle.receiver.specs.declared.Receiver.{Receiver}
-use Rattle.answer.specs.declared.Acceptance.TheVariants.{Accepted}
 use Rattle.receiver.specs.Bounds.{in_bounds, opened, opened_with}
 use Rattle.isolation.specs.OwnFrames.{key_at}
 use Rattle.isolation.specs.Rules.{Values, fresh, outputs}
@@ -16,7 +16,6 @@ use Rattle.isolation.specs.Observe.{record_after, store_after, observed, record_
 use Rattle.isolation.specs.Stands.{values_of, stands_for}
 use Rattle.isolation.proofs.InBounds.{sim_bounds, bounds_sim}
 use Rattle.transport.specs.declared.Key.{Key}
-use Rattle.answer.specs.declared.Acceptance.TheVariants as acceptance
 use Rattle.receiver.specs.Calls.{frame_step, reading_step}
 use Rattle.answer.specs.Answers.{answer_number}
 use Rattle.isolation.proofs.Refused.{never_23, reading_never_23}
@@ -29,7 +28,7 @@ key_numbers κ d s = key_of_lem κ (record { da = d; session = s })
 
 -- DEMAND 3. For every opening that is accepted, every store of 32,768 bytes whatever it held, every list of calls and every key, what
 -- the receiver shows for the key is what the rules of that key by itself put out.
-pub demand_3 : (own : Address) (limits : IdleLimits) (first : ℕ) → (opened own limits first).answer ≡ Accepted → (m : List ℕ) → length m ≡ 32768 → (k : ℕ) (cs : List Call)
+pub demand_3 : (own : Address) (limits : IdleLimits) (first : ℕ) → (opened own limits first).answer ≡ Ok tt → (m : List ℕ) → length m ≡ 32768 → (k : ℕ) (cs : List Call)
     → let v : Values = record { own = own; limits = limits } in
     observed v k (opened own limits first).receiver m cs ≡ outputs v k (fresh first) (told v (λ j. fresh first) k cs)
 unfolding opened
@@ -37,7 +36,7 @@ demand_3 own limits first g m h k cs = run _ k cs (opened_with own limits first)
 
 -- Two lists of calls, on receivers opened alike over stores of any content, that are alike in what one key's rules see and are told,
 -- give that key the same answers and the same bytes.
-pub alike : (own : Address) (limits : IdleLimits) (first : ℕ) → (opened own limits first).answer ≡ Accepted → (m m' : List ℕ) → length m ≡ 32768 → length m' ≡ 32768 → (k : ℕ) (cs cs' : List Call)
+pub alike : (own : Address) (limits : IdleLimits) (first : ℕ) → (opened own limits first).answer ≡ Ok tt → (m m' : List ℕ) → length m ≡ 32768 → length m' ≡ 32768 → (k : ℕ) (cs cs' : List Call)
     → let v : Values = record { own = own; limits = limits } in
     told v (λ j. fresh first) k cs ≡ told v (λ j. fresh first) k cs'
     → observed v k (opened own limits first).receiver m cs ≡ observed v k (opened own limits first).receiver m' cs'
@@ -56,7 +55,7 @@ unfolding opened
 eight_slots own limits first = refl
 
 -- An accepted opening gives a record in bounds.
-pub opens_in_bounds : (own : Address) (limits : IdleLimits) (first : ℕ) → (opened own limits first).answer ≡ Accepted → in_bounds (opened own limits first).receiver ≡ true
+pub opens_in_bounds : (own : Address) (limits : IdleLimits) (first : ℕ) → (opened own limits first).answer ≡ Ok tt → in_bounds (opened own limits first).receiver ≡ true
 unfolding opened
 opens_in_bounds own limits first g =
     sim_bounds _ (opened_with own limits first) (replicate 32768 0) (λ j. fresh first) (open_sim own limits first (replicate 32768 0) (accepted_ok own limits first g) (length-replicate {A = ℕ} 32768 0))
@@ -99,10 +98,10 @@ over_in_bounds r m e eight whole (c ∷ cs) = next (stays_in_bounds r m e eight 
 
 -- The receiver never refuses a record of its own with 23: after an accepted opening and any list of calls, a frame or a reading that is
 -- lent the store is answered otherwise.
-pub never_refuses_its_own : (own : Address) (limits : IdleLimits) (first : ℕ) → (opened own limits first).answer ≡ Accepted → (m : List ℕ) → length m ≡ 32768 → (cs : List Call)
+pub never_refuses_its_own : (own : Address) (limits : IdleLimits) (first : ℕ) → (opened own limits first).answer ≡ Ok tt → (m : List ℕ) → length m ≡ 32768 → (cs : List Call)
     → let r : Receiver = record_over (opened own limits first).receiver m cs in
     let s : List ℕ = store_over (opened own limits first).receiver m cs in
-    ((id : ℕ) (d : List ℕ) → answer_number (frame_step r id d s).answer ≡ 23 → ⊥) × ((t : ℕ) → (reading_step r t s).answer ≡ acceptance.Accepted)
+    ((id : ℕ) (d : List ℕ) → answer_number (frame_step r id d s).answer ≡ 23 → ⊥) × ((t : ℕ) → (reading_step r t s).answer ≡ (Ok tt))
 never_refuses_its_own own limits first g m h cs =
     let a = over_in_bounds (opened own limits first).receiver m (opens_in_bounds own limits first g) (eight_slots own limits first) h cs in
     let r : Receiver = record_over (opened own limits first).receiver m cs in

@@ -1,4 +1,5 @@
 -- A frame with several faults: 01, "Numbered refusals", the order for a frame.
+use Rattle.std.specs.Prelude.{Err, None, Ok, Option, Result, Some, ⊤}
 use Prim.Native.Nat.{ℕ, ◌≤◌}
 use mathlib.Core.Path.{◌≡◌, refl, sym, ap, subst, ◌∙◌}
 use mathlib.Core.Bool.{Bool, true, false, cond, not, ◌&&◌, ◌||◌}
@@ -12,8 +13,7 @@ use Rattle.frame.specs.Identifiers.{identifier_of}
 use Rattle.frame.specs.Lengths.{is_length}
 use Rattle.frame.specs.Refusals.{number_of}
 use Rattle.frame.specs.declared.judge.Route.{Route}
-use Rattle.frame.specs.declared.judge.Verdict.{Verdict}
-use Rattle.frame.specs.declared.judge.Verdict.TheVariants as verdict
+use Rattle.frame.specs.declared.judge.Content.TheVariants as verdict
 use Rattle.frame.specs.declared.refusal.Refusal.{Refusal}
 use Rattle.frame.specs.declared.refusal.Refusal.TheVariants.{FrameLength, IdentifierRange, NotTaken, TransferLength, NeitherTakes, KeyNotOpen, PgnForm, AnnouncementForm, TooLong, Assurance, KeyOpen, SlotsFull, OutOfBounds}
 use Rattle.frame.specs.Pgn.{pgn_ok}
@@ -21,11 +21,8 @@ use Rattle.multi_pg.specs.Groups.{GroupsRead, good, bad, groups_read}
 use Rattle.transport.specs.Kinds.{is_rts}
 use Rattle.transport.specs.declared.Key.{Key}
 use Rattle.transport.specs.declared.announcement.Announcement.{Announcement}
-use Rattle.transport.specs.declared.control.Control.{Control}
 use Rattle.transport.specs.declared.eoms.Status.{Status}
 use Rattle.transport.specs.declared.segment.Segment.{Segment}
-use Rattle.transport.specs.declared.segment.DataFrame.{DataFrame}
-use Rattle.transport.specs.declared.segment.DataFrame.TheVariants as dataframe
 use Rattle.transport.specs.declared.Kind.TheVariants.{Rts, Bam}
 use Rattle.transport.specs.declared.control.Control.TheVariants as control
 use Rattle.transport.specs.Control.{not_receivers, control_of}
@@ -39,11 +36,7 @@ use Rattle.answer.specs.declared.Answer.TheVariants as answer
 use Rattle.answer.specs.Answers.{answer_number}
 use Rattle.progress.specs.Forward.{cts_due}
 use Rattle.session.specs.declared.Session.{Session}
-use Rattle.session.specs.declared.State.{State}
-use Rattle.session.specs.declared.State.TheVariants.{Closed, Open}
 use Rattle.session.specs.declared.Step.{Step}
-use Rattle.session.specs.declared.announcement.Form.{Form}
-use Rattle.session.specs.declared.announcement.Form.TheVariants as form
 use Rattle.session.specs.declared.segment.Judged.{Judged}
 use Rattle.session.specs.Announcements.{misdirected, bad_numbers, form_of, first_cts}
 use Rattle.session.specs.Segments.{due_of, already_in, out_of_turn, judged_of, next_cts}
@@ -58,6 +51,8 @@ use Rattle.isolation.proofs.Same.{length_same}
 use Rattle.isolation.proofs.Fit.{walk}
 use Rattle.isolation.proofs.Lowest.{some_number}
 use Rattle.isolation.proofs.Read.{mild_groups, reading_mild}
+use Rattle.frame.specs.declared.judge.Content.{Content}
+use Rattle.transport.specs.declared.control.Control.{Control}
 
 -- none of 23, 2, 1, 3, 9 and 10
 unfoldable pub is_later : ℕ → Bool
@@ -79,8 +74,8 @@ late_step false a b e f = f
 late_rejection : (κ : Key) (a : Announcement) (n : Refusal) → is_later (number_of n) ≡ true → Late (rejection κ a n)
 late_rejection κ a n e = late (is_rts a.kind) (answer.RefusedRts (record { key = κ; refusal = n; pgn = a.pgn })) (answer.Refused n) e e
 
-module _ (x : State) (room : Bool) (κ : Key) (a : Announcement) (last : ℕ) where
-  late_form : (t : Bool) (f g : Form) → Late (on_form f x room κ a last).answer → Late (on_form g x room κ a last).answer → Late (on_form (cond t f g) x room κ a last).answer
+module _ (x : Option Session) (room : Bool) (κ : Key) (a : Announcement) (last : ℕ) where
+  late_form : (t : Bool) (f g : Result ⊤ Refusal) → Late (on_form f x room κ a last).answer → Late (on_form g x room κ a last).answer → Late (on_form (cond t f g) x room κ a last).answer
   late_form true f g e h = e
   late_form false f g e h = h
 
@@ -89,10 +84,10 @@ module _ (x : State) (room : Bool) (κ : Key) (a : Announcement) (last : ℕ) wh
   late_accepted true n e = late (is_rts a.kind) (answer.Grant (first_cts κ a)) (answer.Opened κ) refl refl
   late_accepted false n e = late_rejection κ a n e
 
-  late_good : (y : State) (u : Bool) → Late (on_form form.Good y u κ a last).answer
+  late_good : (y : Option Session) (u : Bool) → Late (on_form (Ok tt) y u κ a last).answer
   unfolding is_later is_one_of
-  late_good (Open s) u = late_accepted (is_restart s a) KeyOpen refl
-  late_good Closed u = late_accepted u SlotsFull refl
+  late_good (Some s) u = late_accepted (is_restart s a) KeyOpen refl
+  late_good None u = late_accepted u SlotsFull refl
 
   announce_late : Late (announced_to x room κ a last).answer
   unfolding announced_to form_of is_later is_one_of
@@ -115,23 +110,23 @@ judged_late s n room last =
     (late_judged s n last (ltb room (due_of s.announced.total.0 n)) _ _ refl
     (late (cts_due s.progress s.announced n) (answer.Grant (next_cts s.announced n)) (answer.Taken (record { key = s.announced.key; number = record { 0 = n } })) refl refl)))
 
-segment_late : (x : State) (sg : Segment) (last : ℕ) → Late (segment_to x sg last).answer
+segment_late : (x : Option Session) (sg : Segment) (last : ℕ) → Late (segment_to x sg last).answer
 unfolding segment_to is_later is_one_of
 segment_late x sg last = late_step (not (eqb sg.format 0)) _ _ refl (go x)
   where
-    go : (y : State) → Late (if_open y (λ s. segment_open s sg.number.0 sg.room last)).answer
-    go Closed = refl
-    go (Open s) = judged_late s sg.number.0 sg.room last
+    go : (y : Option Session) → Late (if_open y (λ s. segment_open s sg.number.0 sg.room last)).answer
+    go None = refl
+    go (Some s) = judged_late s sg.number.0 sg.room last
 
-status_late : (x : State) (slot : ℕ) (st : Status) (last : ℕ) → Late (status_to x slot st last).answer
+status_late : (x : Option Session) (slot : ℕ) (st : Status) (last : ℕ) → Late (status_to x slot st last).answer
 unfolding status_to is_later is_one_of
-status_late Closed slot st last = refl
-status_late (Open s) slot st last = by_status (λ (r : Step). Late r.answer) s slot st last refl (λ _ _. refl) (λ _ _ _. refl) refl
+status_late None slot st last = refl
+status_late (Some s) slot st last = by_status (λ (r : Step). Late r.answer) s slot st last refl (λ _ _. refl) (λ _ _ _. refl) refl
 
-abort_late : (x : State) (pgn : ℕ) → Late (abort_to x pgn).answer
+abort_late : (x : Option Session) (pgn : ℕ) → Late (abort_to x pgn).answer
 unfolding abort_to is_later is_one_of
-abort_late Closed pgn = refl
-abort_late (Open s) pgn = late_step (eqb pgn s.announced.pgn) _ _ refl refl
+abort_late None pgn = refl
+abort_late (Some s) pgn = late_step (eqb pgn s.announced.pgn) _ _ refl refl
 
 -- ---- a frame
 
@@ -175,14 +170,14 @@ module _ (r : Receiver) (d m : List ℕ) where
   control_told : (κ : Key) → Told r m (cond (not (eqb (length d) 12)) 9 (cond (not receivers) (cond (from_responder d) 16 10) 0)) (on_control (control_of d) r κ, m)
   unfolding control_of announce_step status_step abort_step is_later is_one_of receivers
   control_told κ =
-      walk (λ (c : Control) (n : ℕ). Told r m n (on_control c r κ, m)) (not (eqb (length d) 12)) (not (eqb (length d) 12)) refl (λ _. at_fault TransferLength)
+      walk (λ (c : Result Control Refusal) (n : ℕ). Told r m n (on_control c r κ, m)) (not (eqb (length d) 12)) (not (eqb (length d) 12)) refl (λ _. at_fault TransferLength)
       (λ _. go (eqb (control_at d) 0) (eqb (control_at d) 4) (eqb (control_at d) 2) (eqb (control_at d) 15 && eqb (role_at d) 0))
     where
       go : (a b s x : Bool)
           → Told r m (cond (not ((a || (s || (b || false))) || x)) (cond (from_responder d) 16 10) 0) (
-            on_control (cond a (control.Announce (announcement_at Rts d))
-                (cond b (control.Announce (announcement_at Bam d))
-                (cond s (control.EndOfMessage (status_at d)) (cond x (control.Abort (abort_pgn_at d)) (control.Refused (not_receivers d)))))) r κ,
+            on_control (cond a (Ok (control.Announce (announcement_at Rts d)))
+                (cond b (Ok (control.Announce (announcement_at Bam d)))
+                (cond s (Ok (control.EndOfMessage (status_at d))) (cond x (Ok (control.Abort (abort_pgn_at d))) (Err (not_receivers d)))))) r κ,
             m,
           )
       go true b s x = no_fault _ (announce_late _ _ κ _ r.last)
@@ -195,8 +190,8 @@ module _ (r : Receiver) (d m : List ℕ) where
   data_told : (κ : Key) → Told r m (cond (ltb (length d) 5) 9 0) (on_data (data_frame_of d) r κ d m)
   unfolding data_frame_of segment_step
   data_told κ =
-      walk (λ (c : DataFrame) (n : ℕ). Told r m n (on_data c r κ d m)) (ltb (length d) 5) (ltb (length d) 5) refl (λ _. at_fault TransferLength)
-      (λ _. no_fault (on_data (dataframe.Segment (segment_at d)) r κ d m) (segment_late _ (segment_at d) r.last))
+      walk (λ (c : Result Segment Refusal) (n : ℕ). Told r m n (on_data c r κ d m)) (ltb (length d) 5) (ltb (length d) 5) refl (λ _. at_fault TransferLength)
+      (λ _. no_fault (on_data (Ok (segment_at d)) r κ d m) (segment_late _ (segment_at d) r.last))
 
   -- by PF
   by_pf : (pf : ℕ) (ρ : Route)
@@ -210,7 +205,7 @@ module _ (r : Receiver) (d m : List ℕ) where
 
       go : (a b c : Bool) → eqb pf 37 ≡ a → eqb pf 77 ≡ b → eqb pf 78 ≡ c
           → Told r m (cond (not (a || (b || (c || false)))) 3 (cond ((b && not (eqb (length d) 12)) || (c && ltb (length d) 5)) 9 (cond (b && not receivers) (cond (from_responder d) 16 10) 0)))
-          (on_verdict (cond a (verdict.MultiPg ρ) (cond b (verdict.Control ρ) (cond c (verdict.Data ρ) (verdict.Refused NotTaken)))) r d m)
+          (on_verdict (cond a (Ok (verdict.MultiPg ρ)) (cond b (Ok (verdict.Control ρ)) (cond c (Ok (verdict.Data ρ)) (Err NotTaken)))) r d m)
       go true b c e f g =
           let z : pf ≡ 37 = eqb-true pf 37 e in
           let no-77 : b ≡ false = sym f ∙ ne_eqb pf 77 (λ y. omega arith) in
@@ -241,10 +236,10 @@ pub first_fault_lem : (r : Receiver) (id : ℕ) (d m : List ℕ) → Told r m (f
 unfolding frame_all judged-frame first_fault is_taken_here is_one_of
 first_fault_lem r id d m = go (is_ready r m)
   where
-    P : Verdict → ℕ → Type 0
+    P : Result Content Refusal → ℕ → Type 0
     P v n = Told r m n (on_verdict v r d m)
 
-    routed : P (cond (not (route_taken r.own (identifier_of id))) (verdict.Refused NotTaken) (by_format (identifier_of id).pf (route_of (identifier_of id))))
+    routed : P (cond (not (route_taken r.own (identifier_of id))) (Err NotTaken) (by_format (identifier_of id).pf (route_of (identifier_of id))))
         (cond (not (is_taken_here r.own id)) 3 (cond (is_cut_short (identifier_of id).pf (length d)) 9 (cond (is_not_receivers (identifier_of id).pf d) (cond (from_responder d) 16 10) 0)))
     routed =
         let t : Bool = eqb (identifier_of id).extended_data_page 0 && eqb (identifier_of id).data_page 0 && (eqb (identifier_of id).ps r.own.0 || eqb (identifier_of id).ps 255) in

@@ -1,8 +1,8 @@
 -- The part of the store or of the frame that is handed over: 01, the last paragraph of "Life of a session".
+use Rattle.std.specs.Prelude.{None, Option, Some, ℕ, is_some}
 use Prim.Native.Nat.{ℕ, zero, suc, ◌*◌, ◌≤◌, ◌<◌}
 use mathlib.Core.Path.{◌≡◌, refl, sym, ap, ◌∙◌, subst}
 use mathlib.Core.Bool.{Bool, true, false, cond, not}
-use mathlib.Core.Option.{Option, none, some}
 use mathlib.Core.List.{List}
 use native.Mathlib.Omega.{arith}
 use lib.Dec.{eqb}
@@ -26,17 +26,13 @@ use Rattle.answer.specs.Places.{place_of, place_bytes}
 use Rattle.answer.specs.Lies.{message_lies, data_lies, trailer_lies}
 use Rattle.progress.specs.Forward.{cts_due}
 use Rattle.session.specs.declared.Session.{Session}
-use Rattle.session.specs.declared.State.{State}
-use Rattle.session.specs.declared.State.TheVariants.{Closed, Open}
 use Rattle.session.specs.declared.segment.Judged.{Judged}
 use Rattle.session.specs.declared.segment.Judged.TheVariants as judged
 use Rattle.session.specs.Segments.{judged_of, next_cts}
 use Rattle.session.specs.Decisions.{refused as refuse, if_open, on_judged, segment_open, segment_to, message_of}
 use Rattle.session.specs.Effects.{Hands, announce_hands, segment_hands, status_hands, abort_hands}
 use Rattle.session.specs.InBounds.{Sound}
-use Rattle.slots.specs.declared.Found.{Found}
-use Rattle.slots.specs.declared.Found.TheVariants.{At, Nothing}
-use Rattle.slots.specs.Slots.{key_place, slot_for, state_in, is_at}
+use Rattle.slots.specs.Slots.{key_place, slot_for, state_in}
 use Rattle.receiver.specs.declared.Receiver.{Receiver}
 use Rattle.receiver.specs.Bounds.{in_bounds}
 use Rattle.receiver.specs.Calls.{Outcome, refused, slot_of, is_ready, on_verdict, frame_all, frame_step, frame_store}
@@ -53,8 +49,8 @@ use Rattle.isolation.proofs.StoreKept.{sound_in, held_in}
 -- first Total Bytes of that slot, all of them
 pub record Handed (r : Receiver) (id : ℕ) (d m : List ℕ) (x : Message) : Type 0 where
   pub session : Session
-  pub found : key_place (key_at (frame_key id d)) r.slots ≡ At x.slot
-  pub state : at r.slots x.slot ≡ Open session
+  pub found : key_place (key_at (frame_key id d)) r.slots ≡ Some x.slot
+  pub state : at r.slots x.slot ≡ Some session
   pub message : x ≡ message_of x.slot session
   pub slot : x.slot < 8
   pub some_byte : 1 ≤ x.total.0
@@ -80,7 +76,7 @@ not_plain a x (groups ρ e) h = clash (is_handed_over a) (ap is_handed_over h) (
 not_plain a x (refusal n e) h = clash (is_handed_over a) (ap is_handed_over h) (ap is_handed_over e)
 
 -- a segment hands nothing over
-segment_quiet : (y : State) (sg : Segment) (last : ℕ) → is_handed_over (segment_to y sg last).answer ≡ false
+segment_quiet : (y : Option Session) (sg : Segment) (last : ℕ) → is_handed_over (segment_to y sg last).answer ≡ false
 unfolding segment_to is_handed_over
 segment_quiet y sg last = go (not (eqb sg.format 0)) y
   where
@@ -95,12 +91,12 @@ segment_quiet y sg last = go (not (eqb sg.format 0)) y
         either (cts_due s.progress s.announced sg.number.0) (answer.Grant (next_cts s.announced sg.number.0))
         (answer.Taken (record { key = s.announced.key; number = record { 0 = sg.number.0 } })) refl refl
 
-    go : (t : Bool) (y : State) → is_handed_over (cond t (refuse FormatIndicator) (if_open y (λ s. segment_open s sg.number.0 sg.room last))).answer ≡ false
+    go : (t : Bool) (y : Option Session) → is_handed_over (cond t (refuse FormatIndicator) (if_open y (λ s. segment_open s sg.number.0 sg.room last))).answer ≡ false
     go true y = refl
-    go false Closed = refl
-    go false (Open s) = judges s (judged_of s sg.number.0 sg.room)
+    go false None = refl
+    go false (Some s) = judges s (judged_of s sg.number.0 sg.room)
 
-asked_hands : (y : State) (room : Bool) (slot last : ℕ) (κ : Key) (b : Body) → Hands y slot (asked y room slot last κ b).answer
+asked_hands : (y : Option Session) (room : Bool) (slot last : ℕ) (κ : Key) (b : Body) → Hands y slot (asked y room slot last κ b).answer
 asked_hands y room slot last κ (announce a) = announce_hands y room slot κ a last
 asked_hands y room slot last κ (segment format n x) = segment_hands y slot (record { format = format; number = record { 0 = n }; room = length x }) last
 asked_hands y room slot last κ (status st) = status_hands y slot st last
@@ -110,8 +106,8 @@ module _ (r : Receiver) (k : ℕ) (m d : List ℕ) (x : Message) where
   -- what is known of an own frame that hands over
   record Own (o : Outcome) : Type 0 where
     session : Session
-    found : key_place (key_at k) r.slots ≡ At x.slot
-    state : at r.slots x.slot ≡ Open session
+    found : key_place (key_at k) r.slots ≡ Some x.slot
+    state : at r.slots x.slot ≡ Some session
     message : x ≡ message_of x.slot session
     store : o.1 ≡ m
 
@@ -127,11 +123,11 @@ module _ (r : Receiver) (k : ℕ) (m d : List ℕ) (x : Message) where
   own_hands b e =
       by (slot_for (key_at k) r.slots) refl
       (subst (λ (a : Answer). Hands (state_in (slot_for (key_at k) r.slots) r.slots) (slot_of (slot_for (key_at k) r.slots)) a) e
-      (asked_hands (state_in (slot_for (key_at k) r.slots) r.slots) (is_at (slot_for (key_at k) r.slots)) (slot_of (slot_for (key_at k) r.slots)) r.last (key_at k) b))
+      (asked_hands (state_in (slot_for (key_at k) r.slots) r.slots) (is_some (slot_for (key_at k) r.slots)) (slot_of (slot_for (key_at k) r.slots)) r.last (key_at k) b))
     where
-      at_slot : (i : ℕ) (y : State) → slot_for (key_at k) r.slots ≡ At i → at r.slots i ≡ y → Hands y i (answer.HandedOver x) → Own (body_step r (key_at k) b d m)
-      at_slot i Closed f g h = absurd h
-      at_slot i (Open s) f g h =
+      at_slot : (i : ℕ) (y : Option Session) → slot_for (key_at k) r.slots ≡ Some i → at r.slots i ≡ y → Hands y i (answer.HandedOver x) → Own (body_step r (key_at k) b d m)
+      at_slot i None f g h = absurd h
+      at_slot i (Some s) f g h =
           let q : x.slot ≡ i = ap (λ (z : Message). z.slot) h in
           record {
             session = s;
@@ -141,9 +137,9 @@ module _ (r : Receiver) (k : ℕ) (m d : List ℕ) (x : Message) where
             store = kept b e;
           }
 
-      by : (f : Found) → slot_for (key_at k) r.slots ≡ f → Hands (state_in f r.slots) (slot_of f) (answer.HandedOver x) → Own (body_step r (key_at k) b d m)
-      by Nothing f h = absurd h
-      by (At i) f h = at_slot i (at r.slots i) f refl h
+      by : (f : Option ℕ) → slot_for (key_at k) r.slots ≡ f → Hands (state_in f r.slots) (slot_of f) (answer.HandedOver x) → Own (body_step r (key_at k) b d m)
+      by None f h = absurd h
+      by (Some i) f h = at_slot i (at r.slots i) f refl h
 
 module _ (r : Receiver) (id : ℕ) (d m : List ℕ) (eight : length r.slots ≡ 8) (x : Message) (hands : (frame_step r id d m).answer ≡ answer.HandedOver x) where
   facts : is_ready r m ≡ true → Own r (frame_key id d) m d x (frame_all r id d m) → Handed r id d m x
@@ -180,8 +176,8 @@ handed_over r id d m eight x hands = go (is_ready r m) refl hands
     o = on_verdict (judged-frame r.own id (length d)) r d m
 
     read : (b : Option Body) → Takes r d m (key_at (frame_key id d)) o b → o.0.answer ≡ answer.HandedOver x → Own r (frame_key id d) m d x o
-    read none f e = absurd (not_plain o.0.answer x (subst (λ (z : Outcome). Plain z.0.answer) (sym f.same) f.plain) e)
-    read (some b) t e =
+    read None f e = absurd (not_plain o.0.answer x (subst (λ (z : Outcome). Plain z.0.answer) (sym f.same) f.plain) e)
+    read (Some b) t e =
         subst (Own r (frame_key id d) m d x) (sym t.0) (own_hands r (frame_key id d) m d x b (ap (λ (z : Outcome). z.0.answer) (sym t.0) ∙ e))
 
     go : (t : Bool) → is_ready r m ≡ t → (cond t o (refused r OutOfBounds, m)).0.answer ≡ answer.HandedOver x → Handed r id d m x
@@ -199,8 +195,8 @@ chain_inside d (chain.link p c) (suc i) o h = chain_inside d c i o (omega arith)
 
 -- For every group of a frame that is not refused the same function gives exactly the group's data, and its trailer.
 pub groups_handed : (d m : List ℕ) (gs : List Group) → groups_read d ≡ good gs → (i : ℕ) (o : Group) → i < length gs
-    → (place_bytes (place.Group (get_or gs i o).start (get_or gs i o).len) d m ≡ (content_of d (get_or gs i o)).bytes)
-    × (place_bytes (place.Group (trailer_start (get_or gs i o)) (get_or gs i o).trailer) d m ≡ (content_of d (get_or gs i o)).trailer)
+    → (place_bytes (Some (place.Group (get_or gs i o).start (get_or gs i o).len)) d m ≡ (content_of d (get_or gs i o)).bytes)
+    × (place_bytes (Some (place.Group (trailer_start (get_or gs i o)) (get_or gs i o).trailer)) d m ≡ (content_of d (get_or gs i o)).trailer)
 groups_handed d m gs e i o h =
     let inside : end_of (get_or gs i o) ≤ length d = chain_inside d (good_chain d gs e) i o h in
     (data_lies (get_or gs i o) d m inside, trailer_lies (get_or gs i o) d m inside)

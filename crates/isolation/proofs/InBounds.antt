@@ -1,8 +1,8 @@
 -- A record that keeps step is in bounds, and every record in bounds is one that some world of rules explains.
+use Rattle.std.specs.Prelude.{None, Option, Some, ℕ}
 use Prim.Native.Nat.{ℕ, zero, suc, ◌+◌, ◌*◌, ◌-◌, ◌/◌, ◌≤◌, ◌<◌}
 use mathlib.Core.Path.{◌≡◌, refl, sym, ap, ap₂, ◌∙◌, subst}
 use mathlib.Core.Bool.{Bool, true, false, cond, not, ◌&&◌, ◌||◌, and-false}
-use mathlib.Core.Option.{none}
 use mathlib.Core.List.{List, [], ◌∷◌}
 use native.Mathlib.Omega.{arith}
 use native.Mathlib.Decide.{ℕ_discrete}
@@ -19,15 +19,10 @@ use Rattle.transport.specs.declared.Key.{Key}
 use Rattle.session.specs.declared.Session.{Session}
 use Rattle.session.specs.Segments.{due_of, already_in}
 use Rattle.receiver.specs.declared.Receiver.{Receiver}
-use Rattle.slots.specs.declared.Slot.{Slot}
-use Rattle.session.specs.declared.State.{State}
-use Rattle.session.specs.declared.State.TheVariants as is
-use Rattle.slots.specs.declared.Found.{Found}
-use Rattle.slots.specs.declared.Found.TheVariants.{At, Nothing}
 use Rattle.slots.specs.Slots.{key_place, on_found}
 use Rattle.session.specs.Bounds.{session_ok, state_ok}
 use Rattle.session.specs.InBounds.{Sound, sound_of}
-use Rattle.slots.specs.Bounds.{values_ok, slot_ok, any_holds, state_twin, twin_of, slots_ok}
+use Rattle.slots.specs.Bounds.{values_ok, any_holds, twin_of, slots_ok}
 use Rattle.receiver.specs.Bounds.{in_bounds}
 use Rattle.isolation.specs.OwnFrames.{key_at}
 use Rattle.isolation.specs.Rules.{Values, Open, is_taken, due}
@@ -49,43 +44,43 @@ use Rattle.isolation.proofs.Many.{Sim, own_small, state_bounded}
 any_same : (k : ℕ) (l : Slots) → any k l ≡ any_holds (key_at k) l
 unfolding any open_in holds
 any_same k [] = refl
-any_same k (x ∷ l) = ap₂ (λ (s t : Bool). s || t) (sym (holds_same k x.state)) (any_same k l)
+any_same k (x ∷ l) = ap₂ (λ (s t : Bool). s || t) (sym (holds_same k x)) (any_same k l)
 
-alone_true : (n : ℕ) (x : State) (l : Slots) → Bounded n x → ((k : ℕ) → holds k x ≡ true → any k l ≡ false) → not (state_twin x l) ≡ true
+alone_true : (n : ℕ) (x : Option Session) (l : Slots) → Bounded n x → ((k : ℕ) → holds k x ≡ true → any k l ≡ false) → not (twin_of x l) ≡ true
 unfolding holds
-alone_true n is.Closed l b h = refl
-alone_true n (is.Open s) l b h =
+alone_true n None l b h = refl
+alone_true n (Some s) l b h =
     let e : key_at (key_number s.announced.key) ≡ s.announced.key = key_of_lem s.announced.key (b.small s refl) in
     ap not (subst (λ (κ : Key). any_holds κ l ≡ false) e
     (sym (any_same (key_number s.announced.key) l)
     ∙ h (key_number s.announced.key) (keys_same s.announced.key (key_at (key_number s.announced.key)) (sym e))))
 
-true_alone : (x : State) (l : Slots) → not (state_twin x l) ≡ true → (k : ℕ) → holds k x ≡ true → any k l ≡ false
-true_alone is.Closed l h k e = absurd (clash (holds k is.Closed) e (holds_free k))
-true_alone (is.Open s) l h k e = any_same k l ∙ rw (← open_key k s e) (not-true (any_holds s.announced.key l) h)
+true_alone : (x : Option Session) (l : Slots) → not (twin_of x l) ≡ true → (k : ℕ) → holds k x ≡ true → any k l ≡ false
+true_alone None l h k e = absurd (clash (holds k None) e (holds_free k))
+true_alone (Some s) l h k e = any_same k l ∙ rw (← open_key k s e) (not-true (any_holds s.announced.key l) h)
 
 pub slots_true : (own : Address) → own.0 ≤ 253 → (l : Slots) → Unique l → ((i : ℕ) → state_ok own (at l i) ≡ true) → slots_ok own l ≡ true
 unfolding slots_ok
 slots_true own small [] u a = refl
 slots_true own small (x ∷ l) u a =
-    both (slot_ok own x && not (twin_of x l)) (slots_ok own l)
-    (both (slot_ok own x) (not (twin_of x l)) (a 0)
-    (alone_true _ x.state l (state_bounded own x.state small (a 0))
+    both (state_ok own x && not (twin_of x l)) (slots_ok own l)
+    (both (state_ok own x) (not (twin_of x l)) (a 0)
+    (alone_true _ x l (state_bounded own x small (a 0))
     (λ k e. any_none k l (λ i. or-false (holds k (at l i)) (λ t. let z : 0 ≡ suc i = u 0 (suc i) k e t in omega arith)))))
     (slots_true own small l (λ i j k g h. let z : suc i ≡ suc j = u (suc i) (suc j) k g h in omega arith) (λ i. a (suc i)))
 
-module _ (own : Address) (x : Slot) (l : Slots) (e : slots_ok own (x ∷ l) ≡ true) where
-  head_ok : slot_ok own x ≡ true
+module _ (own : Address) (x : Option Session) (l : Slots) (e : slots_ok own (x ∷ l) ≡ true) where
+  head_ok : state_ok own x ≡ true
   unfolding slots_ok
-  head_ok = and_left (slot_ok own x) (not (twin_of x l)) (and_left (slot_ok own x && not (twin_of x l)) (slots_ok own l) e)
+  head_ok = and_left (state_ok own x) (not (twin_of x l)) (and_left (state_ok own x && not (twin_of x l)) (slots_ok own l) e)
 
   head_alone : not (twin_of x l) ≡ true
   unfolding slots_ok
-  head_alone = and_right (slot_ok own x) (not (twin_of x l)) (and_left (slot_ok own x && not (twin_of x l)) (slots_ok own l) e)
+  head_alone = and_right (state_ok own x) (not (twin_of x l)) (and_left (state_ok own x && not (twin_of x l)) (slots_ok own l) e)
 
   tail_ok : slots_ok own l ≡ true
   unfolding slots_ok
-  tail_ok = and_right (slot_ok own x && not (twin_of x l)) (slots_ok own l) e
+  tail_ok = and_right (state_ok own x && not (twin_of x l)) (slots_ok own l) e
 
 pub true_all : (own : Address) (l : Slots) → slots_ok own l ≡ true → (i : ℕ) → state_ok own (at l i) ≡ true
 true_all own [] e i = refl
@@ -93,10 +88,10 @@ true_all own (x ∷ l) e zero = head_ok own x l e
 true_all own (x ∷ l) e (suc i) = true_all own l (tail_ok own x l e) i
 
 pub true_unique : (own : Address) (l : Slots) → slots_ok own l ≡ true → Unique l
-true_unique own [] e i j k g h = absurd (clash (holds k is.Closed) g (holds_free k))
+true_unique own [] e i j k g h = absurd (clash (holds k None) g (holds_free k))
 true_unique own (x ∷ l) e zero zero k g h = refl
-true_unique own (x ∷ l) e zero (suc j) k g h = absurd (clash (any k l) (any_from k l j h) (true_alone x.state l (head_alone own x l e) k g))
-true_unique own (x ∷ l) e (suc i) zero k g h = absurd (clash (any k l) (any_from k l i g) (true_alone x.state l (head_alone own x l e) k h))
+true_unique own (x ∷ l) e zero (suc j) k g h = absurd (clash (any k l) (any_from k l j h) (true_alone x l (head_alone own x l e) k g))
+true_unique own (x ∷ l) e (suc i) zero k g h = absurd (clash (any k l) (any_from k l i g) (true_alone x l (head_alone own x l e) k h))
 true_unique own (x ∷ l) e (suc i) (suc j) k g h = ap suc (true_unique own l (tail_ok own x l e) i j k g h)
 
 -- ---- from the simulation
@@ -182,10 +177,10 @@ known_inside own s ok n l = go (leb n s.announced.segments.0) refl
     go true e = refl
     go false e = sym (past e)
 
-explained : (v : Values) (k i : ℕ) (m : List ℕ) (x : State) → state_ok v.own x ≡ true → holds k x ≡ true → Ses v k x (part i m) (open_of i m x)
+explained : (v : Values) (k i : ℕ) (m : List ℕ) (x : Option Session) → state_ok v.own x ≡ true → holds k x ≡ true → Ses v k x (part i m) (open_of i m x)
 unfolding open_of
-explained v k i m is.Closed e h = tt
-explained v k i m (is.Open s) e h =
+explained v k i m None e h = tt
+explained v k i m (Some s) e h =
     let ok : Sound v.own s = sound_of v.own s e in
     let total : ℕ = s.announced.total.0 in
     let segments : ℕ = s.announced.segments.0 in (
@@ -227,14 +222,14 @@ bounds_sim r m e eight whole = record {
     slots : slots_ok r.own r.slots ≡ true
     slots = and_right (values_ok r.own r.limits) (slots_ok r.own r.slots) e
 
-    held' : (i k : ℕ) → holds k (at r.slots i) ≡ true → (f : Found) → key_place (key_at k) r.slots ≡ f
-        → Ses (values_of r) k (at r.slots i) (part i m) (on_found f (λ j. open_of j m (at r.slots j)) none)
-    held' i k h Nothing f = absurd (clash (holds k (at r.slots i)) h (find_none k r.slots f i))
-    held' i k h (At j) f =
+    held' : (i k : ℕ) → holds k (at r.slots i) ≡ true → (f : Option ℕ) → key_place (key_at k) r.slots ≡ f
+        → Ses (values_of r) k (at r.slots i) (part i m) (on_found f (λ j. open_of j m (at r.slots j)) None)
+    held' i k h None f = absurd (clash (holds k (at r.slots i)) h (find_none k r.slots f i))
+    held' i k h (Some j) f =
         rw (true_unique r.own r.slots slots j i k (find_some k r.slots j f).0 h)
         (explained (values_of r) k i m (at r.slots i) (true_all r.own r.slots slots i) h)
 
-    shut' : (k : ℕ) → ((i : ℕ) → holds k (at r.slots i) ≡ false) → (f : Found) → key_place (key_at k) r.slots ≡ f
-        → on_found f (λ j. open_of j m (at r.slots j)) none ≡ none
-    shut' k h Nothing f = refl
-    shut' k h (At i) f = absurd (clash (holds k (at r.slots i)) (find_some k r.slots i f).0 (h i))
+    shut' : (k : ℕ) → ((i : ℕ) → holds k (at r.slots i) ≡ false) → (f : Option ℕ) → key_place (key_at k) r.slots ≡ f
+        → on_found f (λ j. open_of j m (at r.slots j)) None ≡ None
+    shut' k h None f = refl
+    shut' k h (Some i) f = absurd (clash (holds k (at r.slots i)) (find_some k r.slots i f).0 (h i))

@@ -1,9 +1,9 @@
 -- A property of an open session that every own frame and every reading keeps, by the rules: an announcement that opens must bring it about,
 -- and a segment that is taken must keep it. Nothing else opens or changes a session.
+use Rattle.std.specs.Prelude.{None, Option, Some}
 use Prim.Native.Nat.{ℕ}
 use mathlib.Core.Path.{◌≡◌, refl}
 use mathlib.Core.Bool.{Bool, true, false, cond, not, ◌||◌}
-use mathlib.Core.Option.{Option, none, some}
 use mathlib.Core.List.{List}
 use lib.Dec.{eqb, ltb}
 use lib.ListN.{length}
@@ -14,8 +14,8 @@ use Rattle.isolation.proofs.Tests.{either_way}
 use Rattle.isolation.proofs.Announced.{Comes, astray, refused, accepted, comes}
 
 abbrev pub IfOpen : (Open → Type 0) → Option Open → Type 0
-IfOpen Q none = Unit {0}
-IfOpen Q (some ρ) = Q ρ
+IfOpen Q None = Unit {0}
+IfOpen Q (Some ρ) = Q ρ
 
 -- segment n with the bytes d meets none of 18, 19 and 20
 pub record Passes (ρ : Open) (n : ℕ) (d : List ℕ) : Type 0 where
@@ -54,22 +54,22 @@ module _ (Q : Open → Type 0) where
   rule_keeps v k last eight x (segment format n d) new added asked h = either_way Keeps (not (eqb format 0)) (λ _. h) (λ _. go x h)
     where
       go : (x : Option Open) → IfOpen Q x → IfOpen Q (if_open x (λ r. segment_open k last r n d)).0
-      go none h = tt
-      go (some ρ) h = segment_keeps k last ρ n d (added format n d refl ρ h) h
-  rule_keeps v k last eight none (status s) new added asked h = tt
-  rule_keeps v k last eight (some ρ) (status s) new added asked h =
+      go None h = tt
+      go (Some ρ) h = segment_keeps k last ρ n d (added format n d refl ρ h) h
+  rule_keeps v k last eight None (status s) new added asked h = tt
+  rule_keeps v k last eight (Some ρ) (status s) new added asked h =
       either_way Keeps (not (as_announced ρ s)) (λ _. tt) (λ _.
       either_way Keeps (eqb (length ρ.pieces) ρ.told.segments.0) (λ _. tt) (λ _.
       either_way Keeps (not (is_rts ρ.told.kind)) (λ _. tt) (λ _.
       either_way Keeps (ltb ρ.requests 5) (λ _. asked ρ h) (λ _. tt))))
-  rule_keeps v k last eight none (abort pgn) new added asked h = tt
-  rule_keeps v k last eight (some ρ) (abort pgn) new added asked h = either_way Keeps (eqb pgn ρ.told.pgn) (λ _. tt) (λ _. h)
+  rule_keeps v k last eight None (abort pgn) new added asked h = tt
+  rule_keeps v k last eight (Some ρ) (abort pgn) new added asked h = either_way Keeps (eqb pgn ρ.told.pgn) (λ _. tt) (λ _. h)
 
   pub reading_keeps : (v : Values) (t : ℕ) (x : Option Open) → IfOpen Q x → IfOpen Q (judged_at v t x)
   unfolding judged_at
-  reading_keeps v t none h = tt
-  reading_keeps v t (some ρ) h = go (is_silent v t ρ)
+  reading_keeps v t None h = tt
+  reading_keeps v t (Some ρ) h = go (is_silent v t ρ)
     where
-      go : (b : Bool) → IfOpen Q (cond b none (some ρ))
+      go : (b : Bool) → IfOpen Q (cond b None (Some ρ))
       go true = tt
       go false = h

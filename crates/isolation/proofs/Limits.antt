@@ -1,4 +1,5 @@
 -- 23 exactly where 01 says: the record's bounds fact by fact, and the store's length.
+use Rattle.std.specs.Prelude.{Err, None, Ok, Option, Some}
 use Prim.Native.Nat.{ℕ, zero, suc, ◌+◌, ◌-◌, ◌/◌, ◌%◌, ◌^◌, ◌≤◌}
 use mathlib.Core.Path.{◌≡◌, refl, sym, ap, ap₂, ◌∙◌, subst}
 use mathlib.Core.Bool.{Bool, true, false, cond, not, ◌&&◌, false≢true}
@@ -16,15 +17,12 @@ use Rattle.frame.specs.declared.Address.{Address}
 use Rattle.frame.specs.declared.refusal.Refusal.TheVariants.{OutOfBounds}
 use Rattle.transport.specs.Kinds.{is_rts}
 use Rattle.transport.specs.declared.Key.{Key}
-use Rattle.answer.specs.declared.Acceptance.TheVariants as acceptance
 use Rattle.answer.specs.Answers.{answer_number}
 use Rattle.progress.specs.declared.Progress.{Progress}
 use Rattle.progress.specs.declared.wait.Wait.{Wait}
 use Rattle.progress.specs.declared.wait.Wait.TheVariants.{First, Second}
 use Rattle.progress.specs.Waits.{is_second}
 use Rattle.session.specs.declared.Session.{Session}
-use Rattle.session.specs.declared.State.{State}
-use Rattle.session.specs.declared.State.TheVariants.{Closed, Open}
 use Rattle.session.specs.Bounds.{Gathered, session_ok, state_ok}
 use Rattle.session.specs.InBounds.{Sound, sound_of, of_sound}
 use Rattle.slots.specs.Bounds.{values_ok, slots_ok}
@@ -149,19 +147,19 @@ module _ (own : Address) (s : Session) where
 
 -- ---- a record
 
-state_of : (own : Address) (x : State) → state_ok own x ≡ true → (s : Session) → x ≡ Open s → session_ok own s ≡ true
-state_of own x e s y = subst (λ (z : State). state_ok own z ≡ true) y e
+state_of : (own : Address) (x : Option Session) → state_ok own x ≡ true → (s : Session) → x ≡ Some s → session_ok own s ≡ true
+state_of own x e s y = subst (λ (z : Option Session). state_ok own z ≡ true) y e
 
-of_state : (own : Address) (x : State) → ((s : Session) → x ≡ Open s → session_ok own s ≡ true) → state_ok own x ≡ true
-of_state own Closed f = refl
-of_state own (Open s) f = f s refl
+of_state : (own : Address) (x : Option Session) → ((s : Session) → x ≡ Some s → session_ok own s ≡ true) → state_ok own x ≡ true
+of_state own None f = refl
+of_state own (Some s) f = f s refl
 
 -- a state that holds a key is open with it
-held_by : (k : ℕ) (x : State) → holds k x ≡ true → (s : Session) × (x ≡ Open s) × (s.announced.key ≡ key_at k)
-held_by k Closed e = absurd (clash (holds k Closed) e (holds_free k))
-held_by k (Open s) e = (s, refl, open_key k s e)
+held_by : (k : ℕ) (x : Option Session) → holds k x ≡ true → (s : Session) × (x ≡ Some s) × (s.announced.key ≡ key_at k)
+held_by k None e = absurd (clash (holds k None) e (holds_free k))
+held_by k (Some s) e = (s, refl, open_key k s e)
 
-holds_own : (x : State) (s : Session) → x ≡ Open s → Small s.announced.key → (t : Session) → s.announced.key ≡ t.announced.key → holds (key_number t.announced.key) x ≡ true
+holds_own : (x : Option Session) (s : Session) → x ≡ Some s → Small s.announced.key → (t : Session) → s.announced.key ≡ t.announced.key → holds (key_number t.announced.key) x ≡ true
 unfolding holds
 holds_own x s e small t k =
     rw e (keys_same s.announced.key (key_at (key_number t.announced.key)) (sym (ap (λ (κ : Key). key_at (key_number κ)) (sym k) ∙ key_of_lem s.announced.key small)))
@@ -175,7 +173,7 @@ in_bounds_exactly r = (into, out)
     into e =
         let a = allowed r.own r.limits (and_left (values_ok r.own r.limits) (slots_ok r.own r.slots) e) in
         let ok = and_right (values_ok r.own r.limits) (slots_ok r.own r.slots) e in
-        let one : (i : ℕ) (s : Session) → at r.slots i ≡ Open s
+        let one : (i : ℕ) (s : Session) → at r.slots i ≡ Some s
         → SessionIn r.own s = λ i s y. session_in r.own s (state_of r.own (at r.slots i) (true_all r.own r.slots ok i) s y) in
         record {
           own = a.own_address;
@@ -226,8 +224,8 @@ frame_23_exactly r id d m = (
 
 -- The same of a reading.
 pub reading_23_exactly : (r : Receiver) (t : ℕ) (m : List ℕ)
-    → ((Ready r m → ⊥) → reading_step r t m ≡ record { next = r; answer = acceptance.Refused OutOfBounds; ends = replicate 8 stays })
-    × (Ready r m → (reading_step r t m).answer ≡ acceptance.Accepted)
+    → ((Ready r m → ⊥) → reading_step r t m ≡ record { next = r; answer = Err OutOfBounds; ends = replicate 8 stays })
+    × (Ready r m → (reading_step r t m).answer ≡ (Ok tt))
 reading_23_exactly r t m = (
   (λ n. reading_refused r t m (not_ready r m n)),
   (λ h. reading_never_23 r t m ((in_bounds_exactly r).1 h.0) h.1),

@@ -1,9 +1,9 @@
 -- The receiver keeps step with the world of rules, call by call.
+use Rattle.std.specs.Prelude.{None, Option, Some, ℕ, is_some}
 use Prim.Native.Nat.{ℕ, zero, suc, ◌≤◌, ◌<◌}
 use mathlib.Core.Path.{◌≡◌, refl, sym, ap, ap₂, ◌∙◌, subst}
 use mathlib.Core.Logic.{◌⊎◌, inl, inr}
 use mathlib.Core.Bool.{and-not_self, Bool, true, false, cond, not, ◌&&◌}
-use mathlib.Core.Option.{Option, none, some}
 use mathlib.Core.List.{List, [], ◌∷◌, ◌++◌, map, append-nil}
 use native.Mathlib.Omega.{arith}
 use native.Mathlib.Decide.{ℕ_discrete}
@@ -17,20 +17,14 @@ use Rattle.frame.specs.declared.Address.{Address}
 use Rattle.session.specs.declared.Session.{Session}
 use Rattle.transport.specs.Kinds.{is_rts}
 use Rattle.receiver.specs.declared.Receiver.{Receiver}
-use Rattle.slots.specs.declared.Slot.{Slot}
-use Rattle.session.specs.declared.State.{State}
-use Rattle.session.specs.declared.State.TheVariants as is
-use Rattle.slots.specs.declared.Found.{Found}
-use Rattle.slots.specs.declared.Found.TheVariants.{At, Nothing}
-use Rattle.slots.specs.Slots.{key_place, first_free, slot_for, state_in, is_at, or_else, free_slot, free_state}
+use Rattle.slots.specs.Slots.{key_place, first_free, slot_for, state_in, or_else, free_slot, is_free}
 use Rattle.session.specs.Bounds.{session_ok, state_ok}
 use Rattle.session.specs.InBounds.{sound_of}
 use Rattle.slots.specs.Bounds.{values_ok}
-use Rattle.receiver.specs.Calls.{Outcome, with_slot, slot_of, after_end, expired, expired_state, slot_end, end_of, reading_kept}
+use Rattle.receiver.specs.Calls.{Outcome, with_slot, slot_of, after_end, expired, end_of, reading_kept}
 use Rattle.session.specs.declared.Step.{Step}
 use Rattle.session.specs.Decisions as D
 use Rattle.frame.specs.declared.refusal.Refusal.TheVariants.{Silence}
-use Rattle.answer.specs.declared.End.TheVariants as end
 use Rattle.isolation.specs.Rules as R
 use Rattle.isolation.specs.OwnFrames.{key_at, frame_key, all_keys, Body, announce, segment, status, abort, body_of}
 use Rattle.isolation.specs.Replies.{Reply}
@@ -57,7 +51,7 @@ pub record Sim (v : Values) (r : Receiver) (m : List ℕ) (w : World) : Type 0 w
   pub whole : length m ≡ 32768
   pub last : (k : ℕ) → (w k).last ≡ r.last
   pub held : (i k : ℕ) → holds k (at r.slots i) ≡ true → Ses v k (at r.slots i) (part i m) (w k).session
-  pub shut : (k : ℕ) → ((i : ℕ) → holds k (at r.slots i) ≡ false) → (w k).session ≡ none
+  pub shut : (k : ℕ) → ((i : ℕ) → holds k (at r.slots i) ≡ false) → (w k).session ≡ None
   pub uniq : Unique r.slots
   pub ok : (i : ℕ) → state_ok v.own (at r.slots i) ≡ true
 
@@ -76,26 +70,26 @@ own_small own limits e =
 
 -- ---- a frame that changes its own slot
 
-pub ses_ok : (v : Values) (k : ℕ) (x : State) (p : List ℕ) (y : Option Open) → Ses v k x p y → state_ok v.own x ≡ true
-ses_ok v k is.Closed p y m = refl
-ses_ok v k (is.Open s) p none m = absurd m
-ses_ok v k (is.Open s) p (some ρ) m = rw m.1 m.2.fine
+pub ses_ok : (v : Values) (k : ℕ) (x : Option Session) (p : List ℕ) (y : Option Open) → Ses v k x p y → state_ok v.own x ≡ true
+ses_ok v k None p y m = refl
+ses_ok v k (Some s) p None m = absurd m
+ses_ok v k (Some s) p (Some ρ) m = rw m.1 m.2.fine
 
 module _ (v : Values) (r : Receiver) (m : List ℕ) (w : World) (sim : Sim v r m w) (k : ℕ) (o : Outcome) (y : Option Open) (mv : Moves v r m k o y)
     (w' : World) (wk : (w' k).session ≡ y) (wo : (j : ℕ) → (j ≡ k → ⊥) → (w' j).session ≡ (w j).session) (wl : (j : ℕ) → (w' j).last ≡ (w j).last) where
-  at_same : at (set r.slots mv.slot (record { state = mv.state })) mv.slot ≡ mv.state
+  at_same : at (set r.slots mv.slot mv.state) mv.slot ≡ mv.state
   at_same =
       let z : length r.slots ≡ 8 = sim.eight in
       let l : mv.slot < 8 = mv.low in
-      ap (λ (x : Slot). x.state) (get_or-set_same r.slots mv.slot (record { state = mv.state }) free_slot (omega arith))
+      (get_or-set_same r.slots mv.slot mv.state free_slot (omega arith))
 
-  at_other : (j : ℕ) → (j ≡ mv.slot → ⊥) → at (set r.slots mv.slot (record { state = mv.state })) j ≡ at r.slots j
-  at_other j ne = ap (λ (x : Slot). x.state) (get_or-set_other r.slots mv.slot j (record { state = mv.state }) free_slot ne)
+  at_other : (j : ℕ) → (j ≡ mv.slot → ⊥) → at (set r.slots mv.slot mv.state) j ≡ at r.slots j
+  at_other j ne = (get_or-set_other r.slots mv.slot j mv.state free_slot ne)
 
   abbrev Holder : ℕ → ℕ → Type 0
   Holder j n = ((j ≡ mv.slot) × (n ≡ k)) ⊎ ((j ≡ mv.slot → ⊥) × (n ≡ k → ⊥) × (holds n (at r.slots j) ≡ true))
 
-  holder : (j n : ℕ) → holds n (at (set r.slots mv.slot (record { state = mv.state })) j) ≡ true → Holder j n
+  holder : (j n : ℕ) → holds n (at (set r.slots mv.slot mv.state) j) ≡ true → Holder j n
   holder j n h = go (ℕ_discrete j mv.slot)
     where
       go : Dec (j ≡ mv.slot) → Holder j n
@@ -107,7 +101,7 @@ module _ (v : Values) (r : Receiver) (m : List ℕ) (w : World) (sim : Sim v r m
     good = sim.good;
     own = sim.own;
     limits = sim.limits;
-    eight = length-set r.slots mv.slot (record { state = mv.state }) ∙ sim.eight;
+    eight = length-set r.slots mv.slot mv.state ∙ sim.eight;
     whole = mv.store.whole;
     last = λ j. wl j ∙ sim.last j;
     held = λ j n h. held' j n (holder j n h);
@@ -116,11 +110,11 @@ module _ (v : Values) (r : Receiver) (m : List ℕ) (w : World) (sim : Sim v r m
     ok = λ j. ok' j (ℕ_discrete j mv.slot);
   }
     where
-      held' : (j n : ℕ) → Holder j n → Ses v n (at (set r.slots mv.slot (record { state = mv.state })) j) (part j o.1) (w' n).session
+      held' : (j n : ℕ) → Holder j n → Ses v n (at (set r.slots mv.slot mv.state) j) (part j o.1) (w' n).session
       held' j n (inl e) = rw (e.0, e.1, at_same, wk) mv.ses
       held' j n (inr e) = rw (at_other j e.0, mv.store.others j e.0, wo n e.1) (sim.held j n e.2)
 
-      shut' : (n : ℕ) → ((j : ℕ) → holds n (at (set r.slots mv.slot (record { state = mv.state })) j) ≡ false) → Dec (n ≡ k) → (w' n).session ≡ none
+      shut' : (n : ℕ) → ((j : ℕ) → holds n (at (set r.slots mv.slot mv.state) j) ≡ false) → Dec (n ≡ k) → (w' n).session ≡ None
       shut' n h (yes e) = rw (e, wk) (ses_shut v k mv.state (part mv.slot o.1) y mv.ses (rw (at_same, e) at (h mv.slot))).1
       shut' n h (no e) =
           wo n e ∙ sim.shut n (λ j. or-false (holds n (at r.slots j)) (λ t. clash (holds n (at r.slots j)) t (rw (at_other j (λ z. e ((mv.place j n t).0 z))) at (h j))))
@@ -131,7 +125,7 @@ module _ (v : Values) (r : Receiver) (m : List ℕ) (w : World) (sim : Sim v r m
       uniq' j₁ j₂ n (inr e) (inl d) = absurd (e.1 d.1)
       uniq' j₁ j₂ n (inr e) (inr d) = sim.uniq j₁ j₂ n e.2 d.2
 
-      ok' : (j : ℕ) → Dec (j ≡ mv.slot) → state_ok v.own (at (set r.slots mv.slot (record { state = mv.state })) j) ≡ true
+      ok' : (j : ℕ) → Dec (j ≡ mv.slot) → state_ok v.own (at (set r.slots mv.slot mv.state) j) ≡ true
       ok' j (yes e) = rw (e, at_same) (ses_ok v k mv.state (part mv.slot o.1) y mv.ses)
       ok' j (no e) = rw (at_other j e) (sim.ok j)
 
@@ -171,34 +165,34 @@ session_bounded own s h ok =
     either true = omega arith
     either false = omega arith
 
-pub state_bounded : (own : Address) (x : State) → own.0 ≤ 253 → state_ok own x ≡ true → Bounded all_keys x
-state_bounded own is.Closed h e = record { small = λ s z. absurd (no s z); below = λ s z. absurd (no s z) }
+pub state_bounded : (own : Address) (x : Option Session) → own.0 ≤ 253 → state_ok own x ≡ true → Bounded all_keys x
+state_bounded own None h e = record { small = λ s z. absurd (no s z); below = λ s z. absurd (no s z) }
   where
-    no : (s : Session) → is.Closed ≡ is.Open s → ⊥
-    no s z = clash (free_state is.Closed) refl (ap free_state z)
-state_bounded own (is.Open t) h e = record {
+    no : (s : Session) → None ≡ Some s → ⊥
+    no s z = clash (is_free None) refl (ap is_free z)
+state_bounded own (Some t) h e = record {
   small = λ s z. rw (same s z) (session_bounded own t h e).0;
   below = λ s z. rw (same s z) (session_bounded own t h e).1;
 }
   where
-    same : (s : Session) → is.Open t ≡ is.Open s → s ≡ t
+    same : (s : Session) → Some t ≡ Some s → s ≡ t
     same s z = cc
 
-open_of_lem : (v : Values) (k : ℕ) (x : State) (p : List ℕ) (y : Option Open) → Ses v k x p y → holds k x ≡ true → is_open y ≡ true
+open_of_lem : (v : Values) (k : ℕ) (x : Option Session) (p : List ℕ) (y : Option Open) → Ses v k x p y → holds k x ≡ true → is_open y ≡ true
 unfolding is_open holds
-open_of_lem v k is.Closed p none m e = e
-open_of_lem v k is.Closed p (some ρ) m e = refl
-open_of_lem v k (is.Open s) p none m e = absurd m
-open_of_lem v k (is.Open s) p (some ρ) m e = refl
+open_of_lem v k None p None m e = e
+open_of_lem v k None p (Some ρ) m e = refl
+open_of_lem v k (Some s) p None m e = absurd m
+open_of_lem v k (Some s) p (Some ρ) m e = refl
 
 module _ (v : Values) (r : Receiver) (m : List ℕ) (w : World) (sim : Sim v r m w) where
   pub open_any : (j : ℕ) → is_open (w j).session ≡ any j r.slots
   unfolding is_open
   open_any j = go (key_place (key_at j) r.slots) refl
     where
-      go : (f : Found) → key_place (key_at j) r.slots ≡ f → is_open (w j).session ≡ any j r.slots
-      go Nothing e = rw (sim.shut j (find_none j r.slots e)) (sym (any_none j r.slots (find_none j r.slots e)))
-      go (At i) e =
+      go : (f : Option ℕ) → key_place (key_at j) r.slots ≡ f → is_open (w j).session ≡ any j r.slots
+      go None e = rw (sim.shut j (find_none j r.slots e)) (sym (any_none j r.slots (find_none j r.slots e)))
+      go (Some i) e =
           let h : holds j (at r.slots i) ≡ true = (find_some j r.slots i e).0 in
           open_of_lem v j (at r.slots i) (part i m) (w j).session (sim.held i j h) h ∙ sym (any_from j r.slots i h)
 
@@ -209,13 +203,13 @@ module _ (v : Values) (r : Receiver) (m : List ℕ) (w : World) (sim : Sim v r m
       ∙ count_others all_keys k r.slots sim.uniq (λ i. state_bounded v.own (at r.slots i) (own_small v.own v.limits sim.good) (sim.ok i)))
 
   -- a slot is free: not eight others
-  pub room : (k i : ℕ) → i < length r.slots → at r.slots i ≡ is.Closed → eight_others w k ≡ false
+  pub room : (k i : ℕ) → i < length r.slots → at r.slots i ≡ None → eight_others w k ≡ false
   room k i h e =
-      let z : others k r.slots < length r.slots = others_less k r.slots i h (or-1 (free_state (at r.slots i)) (holds k (at r.slots i)) (ap free_state e)) in
+      let z : others k r.slots < length r.slots = others_less k r.slots i h (or-1 (is_free (at r.slots i)) (holds k (at r.slots i)) (ap is_free e)) in
       let y : length r.slots ≡ 8 = sim.eight in
       eight_is k ∙ lt-leb 8 (others k r.slots) (omega arith)
 
-  no_room : (k : ℕ) → ((i : ℕ) → holds k (at r.slots i) ≡ false) → first_free r.slots ≡ Nothing → eight_others w k ≡ true
+  no_room : (k : ℕ) → ((i : ℕ) → holds k (at r.slots i) ≡ false) → first_free r.slots ≡ None → eight_others w k ≡ true
   no_room k h e =
       let z : others k r.slots ≡ length r.slots = others_all k r.slots (λ i l. rw (lowest_none r.slots e i l) (h i)) in
       let y : length r.slots ≡ 8 = sim.eight in
@@ -223,7 +217,7 @@ module _ (v : Values) (r : Receiver) (m : List ℕ) (w : World) (sim : Sim v r m
 
 -- ---- an own frame
 
-slot_same : (i j : ℕ) → At i ≡ At j → i ≡ j
+slot_same : (i j : ℕ) → Some i ≡ Some j → i ≡ j
 slot_same i j e = cc
 
 -- only an announcement asks whether eight others are open
@@ -238,73 +232,73 @@ module _ (v : Values) (r : Receiver) (m : List ℕ) (w : World) (sim : Sim v r m
   q : Option Open → Out
   q y = rule v k r.last (eight_others w k) y b
 
-  step_at_lem : Found → Step
-  step_at_lem f = asked (state_in f r.slots) (is_at f) (slot_of f) r.last (key_at k) b
+  step_at_lem : Option ℕ → Step
+  step_at_lem f = asked (state_in f r.slots) (is_some f) (slot_of f) r.last (key_at k) b
 
   -- the change applied to the slot for the key
-  in_slot : (f : Found) → ((i : ℕ) → f ≡ At i → (i < 8) × Place r.slots i k) → (y : Option Open) (z : Out)
+  in_slot : (f : Option ℕ) → ((i : ℕ) → f ≡ Some i → (i < 8) × Place r.slots i k) → (y : Option Open) (z : Out)
       → Tied v k f m y (state_in f r.slots) (step_at_lem f) (leaves b (step_at_lem f) f (state_in f r.slots) d m) z
       → slot_for (key_at k) r.slots ≡ f → Fit v r m k y (body_step r (key_at k) b d m) z
   unfolding step_at_lem
   in_slot f low y z t e = rw e (applies v r m k y (step_at_lem f).answer (leaves b (step_at_lem f) f (state_in f r.slots) d m) z f low (step_at_lem f).change t)
 
   -- the key's slot
-  found : (i : ℕ) → key_place (key_at k) r.slots ≡ At i → (x : State) (y : Option Open) → at r.slots i ≡ x → Ses v k x (part i m) y → holds k x ≡ true
+  found : (i : ℕ) → key_place (key_at k) r.slots ≡ Some i → (x : Option Session) (y : Option Open) → at r.slots i ≡ x → Ses v k x (part i m) y → holds k x ≡ true
       → Fit v r m k y (body_step r (key_at k) b d m) (q y)
   unfolding q step_at_lem
-  found i f is.Closed y e ses h = absurd (clash (holds k is.Closed) h (holds_free k))
-  found i f (is.Open s) none e ses h = absurd ses
-  found i f (is.Open s) (some ρ) e ses h =
+  found i f None y e ses h = absurd (clash (holds k None) h (holds_free k))
+  found i f (Some s) None e ses h = absurd ses
+  found i f (Some s) (Some ρ) e ses h =
       let z : i < length r.slots = (find_some k r.slots i f).1 in
       let y : length r.slots ≡ 8 = sim.eight in
       let low : i < 8 = omega arith in
       let here : holds k (at r.slots i) ≡ true = (find_some k r.slots i f).0 in
-      let state : at r.slots i ≡ is.Open (record_of k ρ ses.0) = e ∙ ap is.Open ses.1 in
-      in_slot (At i)
+      let state : at r.slots i ≡ Some (record_of k ρ ses.0) = e ∙ ap Some ses.1 in
+      in_slot (Some i)
       (λ j u. subst (λ (j : ℕ). (j < 8) × Place r.slots j k) (slot_same i j u)
       (low, λ j n g. ((λ u. holds_one n k (at r.slots i) (rw u at g) here), (λ u. sim.uniq j i k (rw u at g) here))))
-      (some ρ) (rule v k r.last (eight_others w k) (some ρ) b)
+      (Some ρ) (rule v k r.last (eight_others w k) (Some ρ) b)
       (rw state (held_tied v k i low m sim.whole me ρ ses.0 ses.2 r.last (eight_others w k) true b d reads))
-      (ap (λ (g : Found). or_else g (first_free r.slots)) f)
+      (ap (λ (g : Option ℕ). or_else g (first_free r.slots)) f)
 
   -- no slot is the key's
-  missing : key_place (key_at k) r.slots ≡ Nothing → Fit v r m k none (body_step r (key_at k) b d m) (q none)
+  missing : key_place (key_at k) r.slots ≡ None → Fit v r m k None (body_step r (key_at k) b d m) (q None)
   unfolding q step_at_lem
   missing f = go (first_free r.slots) refl
     where
-      nobody : (g : Found) → first_free r.slots ≡ g → (i : ℕ) → g ≡ At i → (i < 8) × Place r.slots i k
+      nobody : (g : Option ℕ) → first_free r.slots ≡ g → (i : ℕ) → g ≡ Some i → (i < 8) × Place r.slots i k
       nobody g e i u =
-          let e' : first_free r.slots ≡ At i = e ∙ u in
+          let e' : first_free r.slots ≡ Some i = e ∙ u in
           let z : i < length r.slots = (lowest_some r.slots i e').1 in
           let y : length r.slots ≡ 8 = sim.eight in (
             omega arith,
             λ j n h. (
-              (λ w₁. absurd (clash (holds n is.Closed) (rw (w₁, (lowest_some r.slots i e').0) at h) (holds_free n))),
+              (λ w₁. absurd (clash (holds n None) (rw (w₁, (lowest_some r.slots i e').0) at h) (holds_free n))),
               (λ w₁. absurd (clash (holds k (at r.slots j)) (rw w₁ at h) (find_none k r.slots f j))),
             ),
           )
 
-      closed : (g : Found) → first_free r.slots ≡ g → state_in g r.slots ≡ is.Closed
-      closed Nothing e = refl
-      closed (At i) e = (lowest_some r.slots i e).0
+      closed : (g : Option ℕ) → first_free r.slots ≡ g → state_in g r.slots ≡ None
+      closed None e = refl
+      closed (Some i) e = (lowest_some r.slots i e).0
 
-      full : (g : Found) → first_free r.slots ≡ g → eight_others w k ≡ not (is_at g)
-      full Nothing e = no_room v r m w sim k (find_none k r.slots f) e
-      full (At i) e = room v r m w sim k i (lowest_some r.slots i e).1 (lowest_some r.slots i e).0
+      full : (g : Option ℕ) → first_free r.slots ≡ g → eight_others w k ≡ not (is_some g)
+      full None e = no_room v r m w sim k (find_none k r.slots f) e
+      full (Some i) e = room v r m w sim k i (lowest_some r.slots i e).1 (lowest_some r.slots i e).0
 
-      go : (g : Found) → first_free r.slots ≡ g → Fit v r m k none (body_step r (key_at k) b d m) (rule v k r.last (eight_others w k) none b)
+      go : (g : Option ℕ) → first_free r.slots ≡ g → Fit v r m k None (body_step r (key_at k) b d m) (rule v k r.last (eight_others w k) None b)
       go g e =
-          in_slot g (nobody g e) none (rule v k r.last (eight_others w k) none b)
+          in_slot g (nobody g e) None (rule v k r.last (eight_others w k) None b)
           (rw (closed g e) (shut_tied v k g m sim.whole me r.last (eight_others w k) (full g e) b d))
-          (ap (λ (h : Found). or_else h (first_free r.slots)) f ∙ e)
+          (ap (λ (h : Option ℕ). or_else h (first_free r.slots)) f ∙ e)
 
   pub body_fit : Fit v r m k (w k).session (body_step r (key_at k) b d m) (rule v k r.last (eight_others w k) (w k).session b)
   unfolding q
   body_fit = go (key_place (key_at k) r.slots) refl
     where
-      go : (f : Found) → key_place (key_at k) r.slots ≡ f → Fit v r m k (w k).session (body_step r (key_at k) b d m) (rule v k r.last (eight_others w k) (w k).session b)
-      go Nothing e = rw (sim.shut k (find_none k r.slots e)) (missing e)
-      go (At i) e =
+      go : (f : Option ℕ) → key_place (key_at k) r.slots ≡ f → Fit v r m k (w k).session (body_step r (key_at k) b d m) (rule v k r.last (eight_others w k) (w k).session b)
+      go None e = rw (sim.shut k (find_none k r.slots e)) (missing e)
+      go (Some i) e =
           let h : holds k (at r.slots i) ≡ true = (find_some k r.slots i e).0 in
           found i e (at r.slots i) (w k).session refl (sim.held i k h) h
 
@@ -320,7 +314,7 @@ kept_open v r r' m m' w w' sim sim' j e =
     ap (λ (t : Bool). any j r.slots && not t) (sym (open_any v r' m' w' sim' j) ∙ ap is_open e ∙ open_any v r m w sim j)
     ∙ and-not_self (any j r.slots)
 
-module _ (v : Values) (r : Receiver) (m : List ℕ) (w : World) (sim : Sim v r m w) (id : ℕ) (d : List ℕ) (b : Body) (body : body_of v.own id d ≡ some b)
+module _ (v : Values) (r : Receiver) (m : List ℕ) (w : World) (sim : Sim v r m w) (id : ℕ) (d : List ℕ) (b : Body) (body : body_of v.own id d ≡ Some b)
     (o : Outcome) (fit : Fit v r m (frame_key id d) (w (frame_key id d)).session o (rule v (frame_key id d) r.last (eight_others w (frame_key id d)) (w (frame_key id d)).session b)) where
   abbrev k : ℕ
   k = frame_key id d
@@ -378,7 +372,7 @@ module _ (v : Values) (r : Receiver) (m : List ℕ) (w : World) (sim : Sim v r m
 
 module _ (v : Values) (r : Receiver) (m : List ℕ) (w : World) (sim : Sim v r m w) (id : ℕ) (d : List ℕ) where
   -- a frame that is no session's own
-  foreign_keeps : body_of v.own id d ≡ none → (o : Outcome) → Foreign r m o → FrameKeeps v r w id d o
+  foreign_keeps : body_of v.own id d ≡ None → (o : Outcome) → Foreign r m o → FrameKeeps v r w id d o
   unfolding world_after sees sees_body after frame_seen is_own is_body outputs strays
   foreign_keeps body o f = record {
     next = unchanged v r m (world_after v w (lent (frame id d))) o.0.next o.1 (ap (λ (z : Outcome). z.0.next) f.same) (ap (λ (z : Outcome). z.1) f.same)
@@ -393,44 +387,44 @@ module _ (v : Values) (r : Receiver) (m : List ℕ) (w : World) (sim : Sim v r m
   frame_keeps o agrees = go (body_of v.own id d) refl agrees.does
     where
       go : (x : Option Body) → body_of v.own id d ≡ x → Takes r d m (key_at (frame_key id d)) o x → FrameKeeps v r w id d o
-      go none e f = foreign_keeps e o f
-      go (some b) e t =
+      go None e f = foreign_keeps e o f
+      go (Some b) e t =
           subst (λ (z : Outcome). FrameKeeps v r w id d z) (sym t.0)
           (own_keeps v r m w sim id d b e (body_step r (key_at (frame_key id d)) b d m)
           (body_fit v r m w sim (frame_key id d) (frame_mine v id d b (own_small v.own v.limits sim.good) e) b d t.1))
 
 -- ---- a reading
 
-endings_none : (limits : IdleLimits) (t k : ℕ) (l : Slots) → ((i : ℕ) → holds k (at l i) ≡ false) → endings_of k (map (slot_end limits t) l) ≡ []
+endings_none : (limits : IdleLimits) (t k : ℕ) (l : Slots) → ((i : ℕ) → holds k (at l i) ≡ false) → endings_of k (map (end_of limits t) l) ≡ []
 unfolding endings_of
 endings_none limits t k [] h = refl
 endings_none limits t k (x ∷ l) h =
-    ap₂ (λ (a b : List Reply). a ++ b) (ends_other limits t k x.state (h 0)) (endings_none limits t k l (λ i. h (suc i)))
+    ap₂ (λ (a b : List Reply). a ++ b) (ends_other limits t k x (h 0)) (endings_none limits t k l (λ i. h (suc i)))
 
-endings_one : (limits : IdleLimits) (t k : ℕ) (l : Slots) → Unique l → (i : ℕ) → holds k (at l i) ≡ true → endings_of k (map (slot_end limits t) l) ≡ ending_of k (end_of limits t (at l i))
+endings_one : (limits : IdleLimits) (t k : ℕ) (l : Slots) → Unique l → (i : ℕ) → holds k (at l i) ≡ true → endings_of k (map (end_of limits t) l) ≡ ending_of k (end_of limits t (at l i))
 unfolding endings_of
-endings_one limits t k [] u i h = absurd (clash (holds k is.Closed) h (holds_free k))
+endings_one limits t k [] u i h = absurd (clash (holds k None) h (holds_free k))
 endings_one limits t k (x ∷ l) u zero h =
-    ap (λ (b : List Reply). ending_of k (end_of limits t x.state) ++ b)
+    ap (λ (b : List Reply). ending_of k (end_of limits t x) ++ b)
     (endings_none limits t k l (λ i. or-false (holds k (at l i)) (λ g. let z : 0 ≡ suc i = u 0 (suc i) k h g in omega arith)))
-    ∙ append-nil (ending_of k (end_of limits t x.state))
+    ∙ append-nil (ending_of k (end_of limits t x))
 endings_one limits t k (x ∷ l) u (suc i) h =
-    ap (λ (a : List Reply). a ++ endings_of k (map (slot_end limits t) l))
-    (ends_other limits t k x.state (or-false (holds k x.state) (λ g. let z : 0 ≡ suc i = u 0 (suc i) k g h in omega arith)))
+    ap (λ (a : List Reply). a ++ endings_of k (map (end_of limits t) l))
+    (ends_other limits t k x (or-false (holds k x) (λ g. let z : 0 ≡ suc i = u 0 (suc i) k g h in omega arith)))
     ∙ endings_one limits t k l (λ a b n p q. let z : suc a ≡ suc b = u (suc a) (suc b) n p q in omega arith) i h
 
 module _ (v : Values) (r : Receiver) (m : List ℕ) (w : World) (sim : Sim v r m w) (t : ℕ) where
-  at_map : (i : ℕ) → at (map (expired r.limits t) r.slots) i ≡ expired_state r.limits t (at r.slots i)
-  at_map i = ap (λ (x : Slot). x.state) (get_or-map (expired r.limits t) r.slots i free_slot)
+  at_map : (i : ℕ) → at (map (expired r.limits t) r.slots) i ≡ expired r.limits t (at r.slots i)
+  at_map i = (get_or-map (expired r.limits t) r.slots i free_slot)
 
   was : (i k : ℕ) → holds k (at (map (expired r.limits t) r.slots) i) ≡ true → holds k (at r.slots i) ≡ true
   was i k h = expire_holds r.limits t k (at r.slots i) (rw (at_map i) at h)
 
-  expired_ok : (limits : IdleLimits) (x : State) → state_ok v.own x ≡ true → state_ok v.own (expired_state limits t x) ≡ true
-  expired_ok limits is.Closed e = refl
-  expired_ok limits (is.Open s) e = go (D.is_silent limits t s)
+  expired_ok : (limits : IdleLimits) (x : Option Session) → state_ok v.own x ≡ true → state_ok v.own (expired limits t x) ≡ true
+  expired_ok limits None e = refl
+  expired_ok limits (Some s) e = go (D.is_silent limits t s)
     where
-      go : (b : Bool) → state_ok v.own (after_end (cond b (end.Ended (D.ending_of s Silence)) end.Stays) (is.Open s)) ≡ true
+      go : (b : Bool) → state_ok v.own (after_end (cond b (Some (D.ending_of s Silence)) None) (Some s)) ≡ true
       go true = refl
       go false = e
 
@@ -452,19 +446,19 @@ module _ (v : Values) (r : Receiver) (m : List ℕ) (w : World) (sim : Sim v r m
       held' : (i k : ℕ) → holds k (at r.slots i) ≡ true → Ses v k (at (map (expired r.limits t) r.slots) i) (part i m) (judged_at v t (w k).session)
       held' i k h = rw (at_map i, sim.limits) (expire_ses v t k (at r.slots i) (part i m) (w k).session (sim.held i k h))
 
-      shut' : (k : ℕ) → ((i : ℕ) → holds k (at (map (expired r.limits t) r.slots) i) ≡ false) → (f : Found) → key_place (key_at k) r.slots ≡ f
-          → judged_at v t (w k).session ≡ none
-      shut' k h Nothing e = rw (sim.shut k (find_none k r.slots e))
-      shut' k h (At i) e =
+      shut' : (k : ℕ) → ((i : ℕ) → holds k (at (map (expired r.limits t) r.slots) i) ≡ false) → (f : Option ℕ) → key_place (key_at k) r.slots ≡ f
+          → judged_at v t (w k).session ≡ None
+      shut' k h None e = rw (sim.shut k (find_none k r.slots e))
+      shut' k h (Some i) e =
           (ses_shut v k (at (map (expired r.limits t) r.slots) i) (part i m) (judged_at v t (w k).session) (held' i k (find_some k r.slots i e).0) (h i)).1
 
   pub reading_says : (k : ℕ) → reading_seen k (reading_kept r t) ≡ outputs v k (w k) (sees v w k (lent (clock t)))
   unfolding reading_seen sees outputs output ends_at
   reading_says k = ap (λ (x : List Reply). R.reading 0 x ∷ []) (go (key_place (key_at k) r.slots) refl)
     where
-      go : (f : Found) → key_place (key_at k) r.slots ≡ f → endings_of k (map (slot_end r.limits t) r.slots) ≡ ends_at v k t (w k).session
-      go Nothing e = rw (sim.shut k (find_none k r.slots e)) (endings_none r.limits t k r.slots (find_none k r.slots e))
-      go (At i) e =
+      go : (f : Option ℕ) → key_place (key_at k) r.slots ≡ f → endings_of k (map (end_of r.limits t) r.slots) ≡ ends_at v k t (w k).session
+      go None e = rw (sim.shut k (find_none k r.slots e)) (endings_none r.limits t k r.slots (find_none k r.slots e))
+      go (Some i) e =
           let h : holds k (at r.slots i) ≡ true = (find_some k r.slots i e).0 in
           endings_one r.limits t k r.slots sim.uniq i h
           ∙ rw sim.limits (ends_own v t k (at r.slots i) (part i m) (w k).session (sim.held i k h))

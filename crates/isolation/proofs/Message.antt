@@ -1,8 +1,8 @@
 -- A message is handed over once, and is exactly its Total Bytes: a theorem on the rules of one session.
+use Rattle.std.specs.Prelude.{None, Option, Some}
 use Prim.Native.Nat.{ℕ, zero, suc, ◌+◌, ◌*◌, ◌-◌, ◌/◌, ◌≤◌, min}
 use mathlib.Core.Path.{◌≡◌, refl, ap, ◌∙◌}
 use mathlib.Core.Bool.{Bool, true, false, cond, not, ◌&&◌, ◌||◌}
-use mathlib.Core.Option.{Option, none, some}
 use mathlib.Core.List.{List, [], ◌∷◌}
 use native.Mathlib.Omega.{arith}
 use lib.Dec.{eqb, ltb}
@@ -103,9 +103,9 @@ is_handed (P.rejected k pgn) = false
 -- the open session of the key has every segment and is closed, and its message is its data joined, Total Bytes in all
 pub record Hands (k : ℕ) (x : Option Open) (q : Out) : Type 0 where
   pub session : Open
-  pub was : x ≡ some session
+  pub was : x ≡ Some session
   pub all_in_lem : length session.pieces ≡ session.told.segments.0
-  pub closed : q.0 ≡ none
+  pub closed : q.0 ≡ None
   pub reply : q.1 ≡ hand_over k session.told (joined session.told.segments.0 session.pieces)
   pub size : length (joined session.told.segments.0 session.pieces) ≡ session.told.total.0
 
@@ -137,13 +137,13 @@ announce_hands v k last eight x a = go (comes k last a v.own eight x)
     go (refused c) = not_handed k x _ (reject_quiet k a c)
     go (accepted good) = not_handed k x _ (opens_quiet k last a)
 
-segment_hands : (k last : ℕ) (ρ : Open) (n : ℕ) (d : List ℕ) → is_handed (segment_open k last ρ n d).1.says ≡ true → Hands k (some ρ) (segment_open k last ρ n d)
+segment_hands : (k last : ℕ) (ρ : Open) (n : ℕ) (d : List ℕ) → is_handed (segment_open k last ρ n d).1.says ≡ true → Hands k (Some ρ) (segment_open k last ρ n d)
 unfolding segment_open adds cts ending
 segment_hands k last ρ n d =
-    either_way (HandsIf k (some ρ)) (eqb n 0 || is_taken n ρ.pieces) (λ _. not_handed k (some ρ) _ refl) (λ _.
-    either_way (HandsIf k (some ρ)) (out_of_turn ρ n || ltb ρ.told.segments.0 n) (λ _. not_handed k (some ρ) _ refl) (λ _.
-    either_way (HandsIf k (some ρ)) (ltb (length d) (due ρ.told.total.0 n)) (λ _. not_handed k (some ρ) _ refl) (λ _.
-    not_handed k (some ρ) _ (quiet_reply (spent ρ n) _ _ refl refl))))
+    either_way (HandsIf k (Some ρ)) (eqb n 0 || is_taken n ρ.pieces) (λ _. not_handed k (Some ρ) _ refl) (λ _.
+    either_way (HandsIf k (Some ρ)) (out_of_turn ρ n || ltb ρ.told.segments.0 n) (λ _. not_handed k (Some ρ) _ refl) (λ _.
+    either_way (HandsIf k (Some ρ)) (ltb (length d) (due ρ.told.total.0 n)) (λ _. not_handed k (Some ρ) _ refl) (λ _.
+    not_handed k (Some ρ) _ (quiet_reply (spent ρ n) _ _ refl refl))))
 
 all_joined : (ρ : Open) → Whole ρ → length ρ.pieces ≡ ρ.told.segments.0 → length (joined ρ.told.segments.0 ρ.pieces) ≡ ρ.told.total.0
 all_joined ρ h e =
@@ -158,17 +158,17 @@ all_joined ρ h e =
     least : (t c : ℕ) → c ≡ (t + 59) / 60 → min (60 * c) t ≡ t
     least t c e = omega arith
 
-status_hands : (k last : ℕ) (ρ : Open) (s : Status) → Whole ρ → is_handed (status_open k last ρ s).1.says ≡ true → Hands k (some ρ) (status_open k last ρ s)
+status_hands : (k last : ℕ) (ρ : Open) (s : Status) → Whole ρ → is_handed (status_open k last ρ s).1.says ≡ true → Hands k (Some ρ) (status_open k last ρ s)
 unfolding status_open lacks asks cts ending
 status_hands k last ρ s h =
-    either_way (HandsIf k (some ρ)) (not (as_announced ρ s)) (λ _. not_handed k (some ρ) _ refl) (λ _.
-    either_way (HandsIf k (some ρ)) (eqb (length ρ.pieces) ρ.told.segments.0)
+    either_way (HandsIf k (Some ρ)) (not (as_announced ρ s)) (λ _. not_handed k (Some ρ) _ refl) (λ _.
+    either_way (HandsIf k (Some ρ)) (eqb (length ρ.pieces) ρ.told.segments.0)
     (λ t _.
     let e : length ρ.pieces ≡ ρ.told.segments.0 = eqb-true (length ρ.pieces) ρ.told.segments.0 t in
     record { session = ρ; was = refl; all_in_lem = e; closed = refl; reply = refl; size = all_joined ρ h e })
     (λ _.
-    either_way (HandsIf k (some ρ)) (not (F.is_rts ρ.told.kind)) (λ _. not_handed k (some ρ) _ refl) (λ _.
-    either_way (HandsIf k (some ρ)) (ltb ρ.requests 5) (λ _. not_handed k (some ρ) _ refl) (λ _. not_handed k (some ρ) _ refl))))
+    either_way (HandsIf k (Some ρ)) (not (F.is_rts ρ.told.kind)) (λ _. not_handed k (Some ρ) _ refl) (λ _.
+    either_way (HandsIf k (Some ρ)) (ltb ρ.requests 5) (λ _. not_handed k (Some ρ) _ refl) (λ _. not_handed k (Some ρ) _ refl))))
 
 -- In whatever state a list of frames and readings left the rules: a frame that hands over closes the session, and the message is its data
 -- joined, exactly Total Bytes long. A session hands over once, since a closed one does not hand over.
@@ -178,20 +178,20 @@ hands_over_lem v k last eight x (announce a) h = announce_hands v k last eight x
 hands_over_lem v k last eight x (segment format n d) h = either_way (HandsIf k x) (not (eqb format 0)) (λ _. not_handed k x _ refl) (λ _. go x h)
   where
     go : (x : Option Open) → WholeIf x → is_handed (if_open x (λ r. segment_open k last r n d)).1.says ≡ true → Hands k x (if_open x (λ r. segment_open k last r n d))
-    go none h = not_handed k none _ refl
-    go (some ρ) h = segment_hands k last ρ n d
-hands_over_lem v k last eight none (status s) h = not_handed k none _ refl
-hands_over_lem v k last eight (some ρ) (status s) h = status_hands k last ρ s h
-hands_over_lem v k last eight none (abort pgn) h = not_handed k none _ refl
-hands_over_lem v k last eight (some ρ) (abort pgn) h = either_way (HandsIf k (some ρ)) (eqb pgn ρ.told.pgn) (λ _. not_handed k (some ρ) _ refl) (λ _. not_handed k (some ρ) _ refl)
+    go None h = not_handed k None _ refl
+    go (Some ρ) h = segment_hands k last ρ n d
+hands_over_lem v k last eight None (status s) h = not_handed k None _ refl
+hands_over_lem v k last eight (Some ρ) (status s) h = status_hands k last ρ s h
+hands_over_lem v k last eight None (abort pgn) h = not_handed k None _ refl
+hands_over_lem v k last eight (Some ρ) (abort pgn) h = either_way (HandsIf k (Some ρ)) (eqb pgn ρ.told.pgn) (λ _. not_handed k (Some ρ) _ refl) (λ _. not_handed k (Some ρ) _ refl)
 
-shut_not_open : (ρ : Open) → none ≡ some ρ → ⊥
+shut_not_open : (ρ : Open) → None ≡ Some ρ → ⊥
 unfolding is_open
-shut_not_open ρ e = clash (is_open none) (ap is_open e) refl
+shut_not_open ρ e = clash (is_open None) (ap is_open e) refl
 
-pub closed_hands_nothing : (v : Values) (k last : ℕ) (eight : Bool) (b : Body) → is_handed (rule v k last eight none b).1.says ≡ false
+pub closed_hands_nothing : (v : Values) (k last : ℕ) (eight : Bool) (b : Body) → is_handed (rule v k last eight None b).1.says ≡ false
 closed_hands_nothing v k last eight b =
-    or-false (is_handed (rule v k last eight none b).1.says) (λ e. let h : Hands k none (rule v k last eight none b) = hands_over_lem v k last eight none b tt e in shut_not_open h.session h.was)
+    or-false (is_handed (rule v k last eight None b).1.says) (λ e. let h : Hands k None (rule v k last eight None b) = hands_over_lem v k last eight None b tt e in shut_not_open h.session h.was)
 
 pub message_whole : (v : Values) (k first : ℕ) (xs : List Input) (eight : Bool) (b : Body)
     → let s : State = after v k (fresh first) xs in

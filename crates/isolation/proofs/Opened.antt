@@ -1,4 +1,5 @@
 -- The keys that are open, counted over all keys, are the slots that are open.
+use Rattle.std.specs.Prelude.{None, Option, Some}
 use Prim.Native.Nat.{ℕ, zero, suc, ◌≤◌, ◌<◌}
 use mathlib.Core.Path.{◌≡◌, refl, sym, ap, ◌∙◌}
 use mathlib.Core.Bool.{and-false, Bool, true, false, cond, not, ◌&&◌, ◌||◌}
@@ -9,10 +10,7 @@ use lib.Dec.{eqb}
 use lib.ListN.{length}
 use borrow.Author.Tests.{eq-eqb, ne_eqb}
 use Rattle.session.specs.declared.Session.{Session}
-use Rattle.slots.specs.declared.Slot.{Slot}
-use Rattle.session.specs.declared.State.{State}
-use Rattle.session.specs.declared.State.TheVariants.{Closed, Open}
-use Rattle.slots.specs.Slots.{free_state}
+use Rattle.slots.specs.Slots.{is_free}
 use Rattle.isolation.specs.World.{count}
 use Rattle.isolation.specs.Observe.{open_in}
 use Rattle.isolation.proofs.Tests.{or-false, or-2}
@@ -27,7 +25,7 @@ pub any_from : (k : ℕ) (l : Slots) (i : ℕ) → holds k (at l i) ≡ true →
 unfolding any open_in holds
 any_from k [] i e = e
 any_from k (x ∷ l) zero e = rw e
-any_from k (x ∷ l) (suc i) e = or-2 (holds k x.state) (any k l) (any_from k l i e)
+any_from k (x ∷ l) (suc i) e = or-2 (holds k x) (any k l) (any_from k l i e)
 
 pub any_none : (k : ℕ) (l : Slots) → ((i : ℕ) → holds k (at l i) ≡ false) → any k l ≡ false
 unfolding any open_in holds
@@ -37,38 +35,38 @@ any_none k (x ∷ l) e = rw (e 0) (any_none k l (λ i. e (suc i)))
 -- slots that hold another key
 pub others : ℕ → Slots → ℕ
 others k [] = 0
-others k (x ∷ l) = cond (free_state x.state || holds k x.state) (others k l) (suc (others k l))
+others k (x ∷ l) = cond (is_free x || holds k x) (others k l) (suc (others k l))
 
 pub others_le : (k : ℕ) (l : Slots) → others k l ≤ length l
 unfolding others
 others_le k [] = omega arith
-others_le k (x ∷ l) = go (free_state x.state || holds k x.state) (others_le k l)
+others_le k (x ∷ l) = go (is_free x || holds k x) (others_le k l)
   where
     go : (t : Bool) → others k l ≤ length l → cond t (others k l) (suc (others k l)) ≤ suc (length l)
     go true h = omega arith
     go false h = omega arith
 
-pub others_less : (k : ℕ) (l : Slots) (i : ℕ) → i < length l → (free_state (at l i) || holds k (at l i)) ≡ true → others k l < length l
+pub others_less : (k : ℕ) (l : Slots) (i : ℕ) → i < length l → (is_free (at l i) || holds k (at l i)) ≡ true → others k l < length l
 unfolding others
 others_less k [] i h e = absurd (omega arith)
 others_less k (x ∷ l) zero h e = let z : others k l ≤ length l = others_le k l in rw e (omega arith)
-others_less k (x ∷ l) (suc i) h e = go (free_state x.state || holds k x.state) (others_less k l i (omega arith) e)
+others_less k (x ∷ l) (suc i) h e = go (is_free x || holds k x) (others_less k l i (omega arith) e)
   where
     go : (t : Bool) → others k l < length l → cond t (others k l) (suc (others k l)) < suc (length l)
     go true h = omega arith
     go false h = omega arith
 
-pub others_all : (k : ℕ) (l : Slots) → ((i : ℕ) → i < length l → (free_state (at l i) || holds k (at l i)) ≡ false) → others k l ≡ length l
+pub others_all : (k : ℕ) (l : Slots) → ((i : ℕ) → i < length l → (is_free (at l i) || holds k (at l i)) ≡ false) → others k l ≡ length l
 unfolding others
 others_all k [] h = refl
 others_all k (x ∷ l) h = rw (h 0 (omega arith)) (ap suc (others_all k l (λ i z. h (suc i) (omega arith))))
 
 -- each key held is below n, and its parts are as in a frame
-pub record Bounded (n : ℕ) (x : State) : Type 0 where
-  pub small : (s : Session) → x ≡ Open s → Small s.announced.key
-  pub below : (s : Session) → x ≡ Open s → key_number s.announced.key < n
+pub record Bounded (n : ℕ) (x : Option Session) : Type 0 where
+  pub small : (s : Session) → x ≡ Some s → Small s.announced.key
+  pub below : (s : Session) → x ≡ Some s → key_number s.announced.key < n
 
-head_alone : (x : Slot) (l : Slots) → Unique (x ∷ l) → (k : ℕ) → holds k x.state ≡ true → any k l ≡ false
+head_alone : (x : Option Session) (l : Slots) → Unique (x ∷ l) → (k : ℕ) → holds k x ≡ true → any k l ≡ false
 head_alone x l u k e = any_none k l (λ i. or-false (holds k (at l i)) (λ t. let z : 0 ≡ suc i = u 0 (suc i) k e t in omega arith))
 
 count_open : (n k : ℕ) (s : Session) (l : Slots) → key_number s.announced.key < n → any (key_number s.announced.key) l ≡ false
@@ -95,12 +93,12 @@ count_open n k s l b a = go (ℕ_discrete (key_number s.announced.key) k)
         (λ j z. rw (ne_eqb (key_number s.announced.key) j (λ y. z (sym y)))))
 
 -- one slot before the rest
-count_head : (n k : ℕ) (x : State) (l : Slots) → Bounded n x → ((j : ℕ) → holds j x ≡ true → any j l ≡ false)
+count_head : (n k : ℕ) (x : Option Session) (l : Slots) → Bounded n x → ((j : ℕ) → holds j x ≡ true → any j l ≡ false)
     → count (λ j. (holds j x || any j l) && not (eqb j k)) n
-    ≡ cond (free_state x || holds k x) (count (λ j. any j l && not (eqb j k)) n) (suc (count (λ j. any j l && not (eqb j k)) n))
+    ≡ cond (is_free x || holds k x) (count (λ j. any j l && not (eqb j k)) n) (suc (count (λ j. any j l && not (eqb j k)) n))
 unfolding holds
-count_head n k Closed l b a = refl
-count_head n k (Open s) l b a =
+count_head n k None l b a = refl
+count_head n k (Some s) l b a =
     let σ : Small s.announced.key = b.small s refl in
     count_same _ _ n (λ j _. ap (λ (t : Bool). (t || any j l) && not (eqb j k)) (same_number s.announced.key σ j))
     ∙ count_open n k s l (b.below s refl)
@@ -117,5 +115,5 @@ pub count_others : (n k : ℕ) (l : Slots) → Unique l → ((i : ℕ) → Bound
 unfolding any open_in others holds
 count_others n k [] u b = count_nothing n
 count_others n k (x ∷ l) u b =
-    count_head n k x.state l (b 0) (head_alone x l u)
+    count_head n k x l (b 0) (head_alone x l u)
     ∙ rw (count_others n k l (λ i j m g h. let z : suc i ≡ suc j = u (suc i) (suc j) m g h in omega arith) (λ i. b (suc i)))

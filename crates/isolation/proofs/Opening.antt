@@ -1,4 +1,5 @@
 -- Which openings are accepted, and what an opening gives: 01, "Numbers that hold everywhere" and the last paragraph of "Numbered refusals".
+use Rattle.std.specs.Prelude.{Err, None, Ok}
 use Prim.Native.Nat.{ℕ, zero, suc, ◌≤◌}
 use mathlib.Core.Path.{◌≡◌, refl}
 use mathlib.Core.Bool.{true}
@@ -8,8 +9,6 @@ use Rattle.laws.specs.Choice.{each_of, all_of_lem}
 use Rattle.progress.specs.declared.wait.IdleLimits.{IdleLimits}
 use Rattle.frame.specs.declared.Address.{Address}
 use Rattle.frame.specs.declared.refusal.Refusal.TheVariants.{OutOfBounds}
-use Rattle.answer.specs.declared.Acceptance.TheVariants.{Accepted, Refused}
-use Rattle.session.specs.declared.State.TheVariants.{Closed}
 use Rattle.slots.specs.Slots.{free_slot}
 use Rattle.slots.specs.Bounds.{values_ok}
 use Rattle.receiver.specs.declared.Receiver.{Receiver}
@@ -50,9 +49,9 @@ ok_of own limits h =
 
 -- An opening is accepted exactly for those, and refused with 23 for all others.
 pub accepted_exactly : (own : Address) (limits : IdleLimits) (first : ℕ)
-    → ((opened own limits first).answer ≡ Accepted → Allowed own.0 limits)
-    × (Allowed own.0 limits → (opened own limits first).answer ≡ Accepted)
-    × ((Allowed own.0 limits → ⊥) → (opened own limits first).answer ≡ Refused OutOfBounds)
+    → ((opened own limits first).answer ≡ Ok tt → Allowed own.0 limits)
+    × (Allowed own.0 limits → (opened own limits first).answer ≡ (Ok tt))
+    × ((Allowed own.0 limits → ⊥) → (opened own limits first).answer ≡ Err OutOfBounds)
 unfolding opened
 accepted_exactly own limits first = (
   (λ e. allowed own limits (accepted_ok own limits first e)),
@@ -66,9 +65,9 @@ pub record Given (own : Address) (limits : IdleLimits) (first : ℕ) (r : Receiv
   pub idle_limits : r.limits ≡ limits
   pub last_reading : r.last ≡ first
   pub eight : length r.slots ≡ 8
-  pub none_open : (i : ℕ) → at r.slots i ≡ Closed
+  pub none_open : (i : ℕ) → at r.slots i ≡ None
 
-free : (n i : ℕ) → at (replicate n free_slot) i ≡ Closed
+free : (n i : ℕ) → at (replicate n free_slot) i ≡ None
 free zero i = refl
 free (suc n) zero = refl
 free (suc n) (suc i) = free n i

@@ -1,8 +1,8 @@
 -- Own frames are what 01 says: control and data frames to which none of 2, 1, 3, 9 and 10 applies, and that is not a sender's.
+use Rattle.std.specs.Prelude.{None, Option, Some}
 use Prim.Native.Nat.{ℕ}
 use mathlib.Core.Path.{◌≡◌, refl, sym, ap, ◌∙◌}
 use mathlib.Core.Bool.{Bool, true, false, cond, not, ◌&&◌, ◌||◌}
-use mathlib.Core.Option.{Option, none, some}
 use mathlib.Core.List.{List, [], ◌∷◌}
 use native.Mathlib.Omega.{arith}
 use lib.Dec.{eqb, leb, ltb}
@@ -60,7 +60,7 @@ control_is d =
     go (eqb (length d) 12) (eqb (control_at d) 0) (eqb (control_at d) 4) (eqb (control_at d) 2) (eqb (control_at d) 15 && eqb (role_at d) 0)
     (announce (announcement_at Rts d)) (announce (announcement_at Bam d)) (status (status_at d)) (abort (abort_pgn_at d))
   where
-    go : (l r b s a : Bool) (w x y z : Body) → is_body (cond (not l) none (cond r (some w) (cond b (some x) (cond s (some y) (cond a (some z) none))))) ≡ (l && ((r || (s || (b || false))) || a))
+    go : (l r b s a : Bool) (w x y z : Body) → is_body (cond (not l) None (cond r (Some w) (cond b (Some x) (cond s (Some y) (cond a (Some z) None))))) ≡ (l && ((r || (s || (b || false))) || a))
     go false r b s a w x y z = refl
     go true true b s a w x y z = refl
     go true false true true a w x y z = refl
@@ -73,7 +73,7 @@ data_is : (d : List ℕ) → is_body (data_body d) ≡ not (ltb (length d) 5)
 unfolding data_body is_body
 data_is d = go (ltb (length d) 5) (segment (format_at d) (number_at d) (data_at d))
   where
-    go : (t : Bool) (w : Body) → is_body (cond t none (some w)) ≡ not t
+    go : (t : Bool) (w : Body) → is_body (cond t None (Some w)) ≡ not t
     go true w = refl
     go false w = refl
 
@@ -82,7 +82,7 @@ body_is : (own : Address) (id : ℕ) (d : List ℕ)
 unfolding body_of is_body
 body_is own id d = go (taken own id d) (eqb (identifier_of id).pf 77) (eqb (identifier_of id).pf 78) (control_body d) (data_body d)
   where
-    go : (t u v : Bool) (x y : Option Body) → is_body (cond (not t) none (cond u x (cond v y none))) ≡ (t && cond u (is_body x) (cond v (is_body y) false))
+    go : (t u v : Bool) (x y : Option Body) → is_body (cond (not t) None (cond u x (cond v y None))) ≡ (t && cond u (is_body x) (cond v (is_body y) false))
     go false u v x y = refl
     go true true v x y = refl
     go true false true x y = refl

@@ -1,8 +1,8 @@
 -- A frame as the receiver reads it, and as the rules' own test does.
+use Rattle.std.specs.Prelude.{Err, None, Ok, Option, Result, Some}
 use Prim.Native.Nat.{ℕ, zero, suc, ◌+◌, ◌*◌, ◌-◌, ◌^◌, ◌≤◌, ◌<◌}
 use mathlib.Core.Path.{◌≡◌, refl, ap}
 use mathlib.Core.Bool.{and_assoc, Bool, true, false, cond, not, ◌&&◌, ◌||◌}
-use mathlib.Core.Option.{Option, none, some}
 use mathlib.Core.List.{List}
 use native.Mathlib.Omega.{arith}
 use lib.Dec.{eqb, leb, ltb}
@@ -10,8 +10,7 @@ use lib.ListN.{length, length-drop}
 use borrow.Author.Tests.{ltb-true, eqb-true, eqb-false, ne_eqb, not-true, leb-true, leb-false, lt-ltb, lt-leb}
 use Rattle.frame.specs.declared.Address.{Address}
 use Rattle.frame.specs.declared.judge.Route.{Route}
-use Rattle.frame.specs.declared.judge.Verdict.{Verdict}
-use Rattle.frame.specs.declared.judge.Verdict.TheVariants as verdict
+use Rattle.frame.specs.declared.judge.Content.TheVariants as verdict
 use Rattle.frame.specs.declared.refusal.Refusal.{Refusal}
 use Rattle.frame.specs.declared.refusal.Refusal.TheVariants.{FrameLength, IdentifierRange, NotTaken, TransferLength, NeitherTakes, KeyNotOpen}
 use Rattle.frame.specs.Identifiers.{identifier_of}
@@ -20,13 +19,9 @@ use Rattle.frame.specs.Judge.{route_taken, by_format, route_of, judged}
 use Rattle.multi_pg.specs.Groups.{end_of, step_at, GroupsRead, good, bad, after, on_step, read_from, groups_read}
 use Rattle.multi_pg.specs.Faults.{OfFault, step_fault}
 use Rattle.multi_pg.specs.declared.Group.{Group}
-use Rattle.multi_pg.specs.declared.Step.{Step}
-use Rattle.multi_pg.specs.declared.Step.TheVariants as step
 use Rattle.frame.specs.Refusals.{number_of}
 use Rattle.answer.specs.Answers.{answer_number, answer_sends}
 use Rattle.transport.specs.declared.Key.{Key}
-use Rattle.transport.specs.declared.control.Control.{Control}
-use Rattle.transport.specs.declared.segment.DataFrame.TheVariants as dataframe
 use Rattle.transport.specs.Control.{is_response, not_receivers, control_of}
 use Rattle.transport.specs.Heads.{control_at, session_at, key_of}
 use Rattle.transport.specs.Aborts.{role_at}
@@ -45,6 +40,8 @@ use Rattle.isolation.proofs.Tests.{and_left, and_right, both, same_test}
 use Rattle.isolation.proofs.Slots.{key_of_lem}
 use Rattle.isolation.proofs.Same.{length_same}
 use Rattle.isolation.proofs.Single.{Mine, body_step, Reads}
+use Rattle.frame.specs.declared.judge.Content.{Content}
+use Rattle.transport.specs.declared.control.Control.{Control}
 
 -- groups, or a refusal that names no key
 pub data Plain (a : Answer) : Type 0 where
@@ -63,14 +60,14 @@ unfolding touches
 plain_quiet a (groups ρ e) j = rw e
 plain_quiet a (refusal n e) j = rw e
 
-pub plain_sends : (a : Answer) → Plain a → answer_sends a ≡ none
+pub plain_sends : (a : Answer) → Plain a → answer_sends a ≡ None
 plain_sends a (groups ρ e) = rw e
 plain_sends a (refusal n e) = rw e
 
 -- the receiver does with the frame what its key's body asks
 abbrev pub Takes : Receiver → List ℕ → List ℕ → Key → Outcome → Option Body → Type 0
-Takes r d m κ o none = Foreign r m o
-Takes r d m κ o (some b) = (o ≡ body_step r κ b d m) × Reads d b
+Takes r d m κ o None = Foreign r m o
+Takes r d m κ o (Some b) = (o ≡ body_step r κ b d m) × Reads d b
 
 pub record Agrees (r : Receiver) (d m : List ℕ) (κ : Key) (o : Outcome) (b : Option Body) : Type 0 where
   pub does : Takes r d m κ o b
@@ -79,7 +76,7 @@ foreign : (r : Receiver) (m : List ℕ) (n : Refusal) → mild (number_of n) ≡
 foreign r m n e = record { answer = answer.Refused n; same = refl; plain = refusal n refl; mildly = e }
 
 module _ (r : Receiver) (d m : List ℕ) (κ : Key) where
-  agree_control : (c c' : Control) (b b' : Option Body) (t : Bool) → Agrees r d m κ (on_control c r κ, m) b → Agrees r d m κ (on_control c' r κ, m) b'
+  agree_control : (c c' : Result Control Refusal) (b b' : Option Body) (t : Bool) → Agrees r d m κ (on_control c r κ, m) b → Agrees r d m κ (on_control c' r κ, m) b'
       → Agrees r d m κ (on_control (cond t c c') r κ, m) (cond t b b')
   agree_control c c' b b' true f g = f
   agree_control c c' b b' false f g = g
@@ -102,8 +99,8 @@ module _ (r : Receiver) (d m : List ℕ) (κ : Key) where
   unfolding data_frame_of data_body segment_step
   data_agrees = go (ltb (length d) 5)
     where
-      go : (t : Bool) → Agrees r d m κ (on_data (cond t (dataframe.Refused TransferLength) (dataframe.Segment (segment_at d))) r κ d m)
-          (cond t none (some (segment (format_at d) (number_at d) (data_at d))))
+      go : (t : Bool) → Agrees r d m κ (on_data (cond t (Err TransferLength) (Ok (segment_at d))) r κ d m)
+          (cond t None (Some (segment (format_at d) (number_at d) (data_at d))))
       go true = record { does = foreign r m TransferLength refl }
       go false = record { does = (rw (length-drop 4 d), refl) }
 
@@ -120,10 +117,10 @@ group_mild n e =
     let u : n ≤ 8 = leb-true n 8 (and_right (leb 4 n) (leb n 8) e) in
     rw (ne_eqb n 19 (λ y. omega arith), ne_eqb n 21 (λ y. omega arith), ne_eqb n 23 (λ y. omega arith))
 
-mild_step : Step → Bool
-mild_step step.End = true
-mild_step (step.Fault n) = group_fault (number_of n)
-mild_step (step.At g) = true
+mild_step : Result (Option Group) Refusal → Bool
+mild_step (Ok None) = true
+mild_step (Err n) = group_fault (number_of n)
+mild_step (Ok (Some g)) = true
 
 abbrev pub mild_groups : GroupsRead → Bool
 mild_groups (good gs) = true
@@ -133,20 +130,20 @@ step_mild : (d : List ℕ) (at : ℕ) → mild_step (step_at d at) ≡ true
 unfolding mild_step
 step_mild d at = go (step_at d at) (step_fault (λ n. group_fault (number_of n) ≡ true) refl refl refl refl refl d at)
   where
-    go : (x : Step) → OfFault (λ n. group_fault (number_of n) ≡ true) x → mild_step x ≡ true
-    go step.End f = refl
-    go (step.Fault n) f = f
-    go (step.At g) f = refl
+    go : (x : Result (Option Group) Refusal) → OfFault (λ n. group_fault (number_of n) ≡ true) x → mild_step x ≡ true
+    go (Ok None) f = refl
+    go (Err n) f = f
+    go (Ok (Some g)) f = refl
 
 after_mild : (g : Group) (x : GroupsRead) → mild_groups x ≡ true → mild_groups (after g x) ≡ true
 after_mild g (good gs) e = refl
 after_mild g (bad n) e = e
 
-on_mild : (x : Step) (rest : Group → GroupsRead) → mild_step x ≡ true → ((g : Group) → mild_groups (rest g) ≡ true) → mild_groups (on_step x rest) ≡ true
+on_mild : (x : Result (Option Group) Refusal) (rest : Group → GroupsRead) → mild_step x ≡ true → ((g : Group) → mild_groups (rest g) ≡ true) → mild_groups (on_step x rest) ≡ true
 unfolding mild_step
-on_mild step.End rest e f = refl
-on_mild (step.Fault n) rest e f = e
-on_mild (step.At g) rest e f = after_mild g (rest g) (f g)
+on_mild (Ok None) rest e f = refl
+on_mild (Err n) rest e f = e
+on_mild (Ok (Some g)) rest e f = after_mild g (rest g) (f g)
 
 read_mild : (n : ℕ) (d : List ℕ) (at : ℕ) → mild_groups (read_from n d at) ≡ true
 unfolding read_from
@@ -162,20 +159,20 @@ module _ (r : Receiver) (id : ℕ) (d m : List ℕ) where
   groups_foreign (good gs) ρ e = record { answer = answer.Groups ρ; same = refl; plain = groups ρ refl; mildly = refl }
   groups_foreign (bad n) ρ e = record { answer = answer.Refused n; same = refl; plain = refusal n refl; mildly = group_mild (number_of n) e }
 
-  format_agrees : (pf : ℕ) (ρ : Route) → Agrees r d m (key_of ρ d) (on_verdict (by_format pf ρ) r d m) (cond (eqb pf 77) (control_body d) (cond (eqb pf 78) (data_body d) none))
+  format_agrees : (pf : ℕ) (ρ : Route) → Agrees r d m (key_of ρ d) (on_verdict (by_format pf ρ) r d m) (cond (eqb pf 77) (control_body d) (cond (eqb pf 78) (data_body d) None))
   unfolding by_format control_step
   format_agrees pf ρ = go (eqb pf 37) refl
     where
       other : (a b : Bool) → Agrees r d m (key_of ρ d)
-          (on_verdict (cond a (verdict.Control ρ) (cond b (verdict.Data ρ) (verdict.Refused NotTaken))) r d m)
-          (cond a (control_body d) (cond b (data_body d) none))
+          (on_verdict (cond a (Ok (verdict.Control ρ)) (cond b (Ok (verdict.Data ρ)) (Err NotTaken))) r d m)
+          (cond a (control_body d) (cond b (data_body d) None))
       other true b = control_agrees r d m (key_of ρ d)
       other false true = data_agrees r d m (key_of ρ d)
       other false false = record { does = foreign r m NotTaken refl }
 
       go : (t : Bool) → eqb pf 37 ≡ t
-          → Agrees r d m (key_of ρ d) (on_verdict (cond t (verdict.MultiPg ρ) (cond (eqb pf 77) (verdict.Control ρ) (cond (eqb pf 78) (verdict.Data ρ) (verdict.Refused NotTaken)))) r d m)
-          (cond (eqb pf 77) (control_body d) (cond (eqb pf 78) (data_body d) none))
+          → Agrees r d m (key_of ρ d) (on_verdict (cond t (Ok (verdict.MultiPg ρ)) (cond (eqb pf 77) (Ok (verdict.Control ρ)) (cond (eqb pf 78) (Ok (verdict.Data ρ)) (Err NotTaken)))) r d m)
+          (cond (eqb pf 77) (control_body d) (cond (eqb pf 78) (data_body d) None))
       go true e =
           let z : pf ≡ 37 = eqb-true pf 37 e in
           rw (ne_eqb pf 77 (λ y. omega arith), ne_eqb pf 78 (λ y. omega arith)) (record { does = groups_foreign (groups_read d) ρ (reading_mild d) })
@@ -212,9 +209,9 @@ pub key_read : (id : ℕ) (d : List ℕ) → key_at (frame_key id d) ≡ key_of 
 unfolding frame_key
 key_read id d = key_of_lem (key_of (route_of (identifier_of id)) d) (record { da = omega arith; session = omega arith })
 
-judged_agrees : (r : Receiver) (id : ℕ) (d m : List ℕ) (κ : Key) (a b c : Bool) (w : Verdict) (x : Option Body) → Agrees r d m κ (on_verdict w r d m) x
-    → Agrees r d m κ (on_verdict (cond a (verdict.Refused IdentifierRange) (cond (not b) (verdict.Refused FrameLength) (cond (not c) (verdict.Refused NotTaken) w))) r d m)
-    (cond (not (not a && (b && c))) none x)
+judged_agrees : (r : Receiver) (id : ℕ) (d m : List ℕ) (κ : Key) (a b c : Bool) (w : Result Content Refusal) (x : Option Body) → Agrees r d m κ (on_verdict w r d m) x
+    → Agrees r d m κ (on_verdict (cond a (Err IdentifierRange) (cond (not b) (Err FrameLength) (cond (not c) (Err NotTaken) w))) r d m)
+    (cond (not (not a && (b && c))) None x)
 judged_agrees r id d m κ true b c w x h = record { does = foreign r m IdentifierRange refl }
 judged_agrees r id d m κ false false c w x h = record { does = foreign r m FrameLength refl }
 judged_agrees r id d m κ false true false w x h = record { does = foreign r m NotTaken refl }
@@ -229,11 +226,11 @@ frame_agrees r id d m =
     (by_format (identifier_of id).pf (route_of (identifier_of id))) _ (format_agrees r id d m (identifier_of id).pf (route_of (identifier_of id))))
 
 -- an own frame's key has addresses that are taken here
-untaken : (t : Bool) (x : Option Body) (b : Body) → cond (not t) none x ≡ some b → t ≡ true
+untaken : (t : Bool) (x : Option Body) (b : Body) → cond (not t) None x ≡ Some b → t ≡ true
 untaken true x b e = refl
 untaken false x b e = cc
 
-pub frame_mine : (v : Values) (id : ℕ) (d : List ℕ) (b : Body) → v.own.0 ≤ 253 → body_of v.own id d ≡ some b → Mine v (frame_key id d)
+pub frame_mine : (v : Values) (id : ℕ) (d : List ℕ) (b : Body) → v.own.0 ≤ 253 → body_of v.own id d ≡ Some b → Mine v (frame_key id d)
 unfolding body_of F.taken frame_key
 frame_mine v id d b small e =
     let t = untaken (F.taken v.own id d) _ b e in

@@ -1,10 +1,10 @@
 -- A repeated RTS is a fresh start: 02, E1. It starts its session anew in the slot that it has, and changes no byte of the store; and every
 -- byte that is handed over after it came after it.
+use Rattle.std.specs.Prelude.{Ok, Option, Some, ℕ, is_some}
 use Prim.Native.Nat.{ℕ, ◌≤◌}
 use mathlib.Core.Path.{◌≡◌, refl, sym, ap, ◌∙◌, subst}
 use mathlib.Core.Logic.{◌⊎◌, inl, inr}
 use mathlib.Core.Bool.{Bool, true, false, cond, not, ◌||◌, false≢true}
-use mathlib.Core.Option.{Option, none, some}
 use mathlib.Core.List.{List, [], ◌∷◌}
 use native.Mathlib.Omega.{arith}
 use lib.Dec.{eqb}
@@ -18,16 +18,11 @@ use Rattle.transport.specs.declared.announcement.Announcement.{Announcement}
 use Rattle.answer.specs.declared.Answer.TheVariants.{Grant}
 use Rattle.answer.specs.Answers.{answer_number}
 use Rattle.session.specs.declared.Session.{Session}
-use Rattle.session.specs.declared.State.{State}
-use Rattle.session.specs.declared.State.TheVariants.{Open}
 use Rattle.session.specs.declared.Change.TheVariants.{Opens}
 use Rattle.session.specs.declared.Step.{Step}
-use Rattle.session.specs.declared.announcement.Form.TheVariants.{Good}
 use Rattle.session.specs.Announcements.{misdirected, form_of, session_of, first_cts}
 use Rattle.session.specs.Decisions.{is_restart, announced_to}
-use Rattle.slots.specs.declared.Found.{Found}
-use Rattle.slots.specs.declared.Found.TheVariants.{At}
-use Rattle.slots.specs.Slots.{key_place, first_free, state_in, is_at, or_else}
+use Rattle.slots.specs.Slots.{key_place, first_free, state_in, or_else}
 use Rattle.receiver.specs.declared.Receiver.{Receiver}
 use Rattle.receiver.specs.Bounds.{in_bounds}
 use Rattle.receiver.specs.Calls.{answered, with_slot, apply, is_ready, refused, on_verdict, frame_all, frame_step}
@@ -55,8 +50,8 @@ use Rattle.isolation.proofs.Message.{Whole, WholeIf, opens_whole, rule_whole, is
 -- ---- in the record
 
 -- what a restart decides, whether or not there is a slot free
-decides : (s : Session) (room : Bool) (κ : Key) (a : Announcement) (last : ℕ) → misdirected κ.da a.kind ≡ false → form_of a ≡ Good → is_restart s a ≡ true
-    → announced_to (Open s) room κ a last ≡ record { change = Opens (session_of κ a last); answer = Grant (first_cts κ a) }
+decides : (s : Session) (room : Bool) (κ : Key) (a : Announcement) (last : ℕ) → misdirected κ.da a.kind ≡ false → form_of a ≡ Ok tt → is_restart s a ≡ true
+    → announced_to (Some s) room κ a last ≡ record { change = Opens (session_of κ a last); answer = Grant (first_cts κ a) }
 unfolding announced_to
 decides s room κ a last aimed good again =
     rw (aimed, good, again, and_left (is_rts a.kind) (eqb a.pgn s.announced.pgn) again)
@@ -65,17 +60,17 @@ decides s room κ a last aimed good again =
 -- session anew in slot i, with none taken and marked with the last reading, and is answered by the CTS from segment 1, whatever other
 -- slots are open. No other slot and no byte of the store changes.
 pub restarts_in_place : (r : Receiver) (id : ℕ) (d m : List ℕ) → is_ready r m ≡ true
-    → (a : Announcement) → body_of r.own id d ≡ some (announce a) → misdirected (key_at (frame_key id d)).da a.kind ≡ false → form_of a ≡ Good
-    → (i : ℕ) (s : Session) → key_place (key_at (frame_key id d)) r.slots ≡ At i → at r.slots i ≡ Open s → is_restart s a ≡ true
+    → (a : Announcement) → body_of r.own id d ≡ Some (announce a) → misdirected (key_at (frame_key id d)).da a.kind ≡ false → form_of a ≡ Ok tt
+    → (i : ℕ) (s : Session) → key_place (key_at (frame_key id d)) r.slots ≡ Some i → at r.slots i ≡ Some s → is_restart s a ≡ true
     → frame_all r id d m
-    ≡ (answered (with_slot r i (Open (session_of (key_at (frame_key id d)) a r.last))) (Grant (first_cts (key_at (frame_key id d)) a)), m)
+    ≡ (answered (with_slot r i (Some (session_of (key_at (frame_key id d)) a r.last))) (Grant (first_cts (key_at (frame_key id d)) a)), m)
 unfolding frame_all
 restarts_in_place r id d m ready a body aimed good i s found state again =
     ap (λ (t : Bool). cond t (on_verdict (judged r.own id (length d)) r d m) (refused r OutOfBounds, m)) ready
     ∙ (subst (Takes r d m κ (on_verdict (judged r.own id (length d)) r d m)) body (frame_agrees r id d m).does).0
-    ∙ ap (λ (f : Found). (apply r f (announced_to (state_in f r.slots) (is_at f) κ a r.last), m)) (ap (λ (f : Found). or_else f (first_free r.slots)) found)
-    ∙ ap (λ (y : State). (apply r (At i) (announced_to y true κ a r.last), m)) state
-    ∙ ap (λ (st : Step). (apply r (At i) st, m)) (decides s true κ a r.last aimed good again)
+    ∙ ap (λ (f : Option ℕ). (apply r f (announced_to (state_in f r.slots) (is_some f) κ a r.last), m)) (ap (λ (f : Option ℕ). or_else f (first_free r.slots)) found)
+    ∙ ap (λ (y : Option Session). (apply r (Some i) (announced_to y true κ a r.last), m)) state
+    ∙ ap (λ (st : Step). (apply r (Some i) st, m)) (decides s true κ a r.last aimed good again)
   where
     κ : Key
     κ = key_at (frame_key id d)
@@ -201,7 +196,7 @@ same_head : (y z : Reply) → ◌≡◌ {A = List Seen} (answer y ∷ []) (answe
 same_head y z e = cc
 
 module _ (r : Receiver) (m : List ℕ) (bounds : in_bounds r ≡ true) (eight : length r.slots ≡ 8) (whole : length m ≡ 32768)
-    (id : ℕ) (d : List ℕ) (a : Announcement) (body : body_of r.own id d ≡ some (announce a)) (zero_is : answer_number (frame_step r id d m).answer ≡ 0) where
+    (id : ℕ) (d : List ℕ) (a : Announcement) (body : body_of r.own id d ≡ Some (announce a)) (zero_is : answer_number (frame_step r id d m).answer ≡ 0) where
   abbrev v : Values
   v = values_of r
 

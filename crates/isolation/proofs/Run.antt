@@ -1,4 +1,5 @@
 -- Lists of calls: the receiver and the world of rules keep step from call to call.
+use Rattle.std.specs.Prelude.{Err, Ok, Result, ⊤}
 use Prim.Native.Nat.{ℕ, zero, suc}
 use mathlib.Core.Path.{◌≡◌, refl, sym, ap, ◌∙◌, subst}
 use mathlib.Core.Bool.{Bool, true, false, cond}
@@ -11,9 +12,6 @@ use Rattle.frame.specs.declared.Address.{Address}
 use Rattle.frame.specs.declared.refusal.Refusal.TheVariants.{OutOfBounds}
 use Rattle.frame.specs.Judge.{judged}
 use Rattle.receiver.specs.declared.Receiver.{Receiver}
-use Rattle.answer.specs.declared.Acceptance.{Acceptance}
-use Rattle.answer.specs.declared.Acceptance.TheVariants.{Accepted, Refused}
-use Rattle.answer.specs.declared.Acceptance.TheVariants as acceptance
 use Rattle.receiver.specs.Calls.{Elapsed}
 use Rattle.slots.specs.Slots.{free_slot}
 use Rattle.session.specs.Bounds.{state_ok}
@@ -29,6 +27,7 @@ use Rattle.isolation.proofs.Slots.{at, holds, holds_free}
 use Rattle.isolation.proofs.Read.{Agrees, frame_agrees}
 use Rattle.isolation.proofs.Many.{Sim, same_sim, kept_open, FrameKeeps, frame_keeps, reading_next, reading_says}
 use Rattle.isolation.proofs.InBounds.{sim_bounds}
+use Rattle.frame.specs.declared.refusal.Refusal.{Refusal}
 
 -- ---- one call
 
@@ -43,7 +42,7 @@ unfolding frame_all
 frame_elsewhere_lem r id d b e = rw e
 
 pub reading_elsewhere_lem : (r : Receiver) (t : ℕ) (b : List ℕ) → eqb (length b) 32768 ≡ false
-    → reading_step r t b ≡ record { next = r; answer = acceptance.Refused OutOfBounds; ends = replicate 8 stays }
+    → reading_step r t b ≡ record { next = r; answer = Err OutOfBounds; ends = replicate 8 stays }
 unfolding reading_step
 reading_elsewhere_lem r t b e = rw e
 
@@ -61,7 +60,7 @@ module _ (v : Values) (r : Receiver) (m : List ℕ) (w : World) (sim : Sim v r m
 
   reading_is : (t : ℕ) → reading_step r t m ≡ reading_kept r t
   unfolding reading_step
-  reading_is t = ap (λ (b : Bool). cond b (reading_kept r t) (record { next = r; answer = acceptance.Refused OutOfBounds; ends = replicate 8 stays })) ready
+  reading_is t = ap (λ (b : Bool). cond b (reading_kept r t) (record { next = r; answer = Err OutOfBounds; ends = replicate 8 stays })) ready
 
   frame_kept : (id : ℕ) (d : List ℕ) → FrameKeeps v r w id d (frame_all r id d m)
   frame_kept id d =
@@ -142,14 +141,14 @@ open_sim own limits first m g h = record {
   ok = all_free own 8;
 }
 
-is_accepted : Acceptance → Bool
-is_accepted Accepted = true
-is_accepted (Refused n) = false
+is_accepted : Result ⊤ Refusal → Bool
+is_accepted (Ok tt) = true
+is_accepted (Err n) = false
 
-pub accepted_ok : (own : Address) (limits : IdleLimits) (first : ℕ) → (opened own limits first).answer ≡ Accepted → values_ok own limits ≡ true
+pub accepted_ok : (own : Address) (limits : IdleLimits) (first : ℕ) → (opened own limits first).answer ≡ Ok tt → values_ok own limits ≡ true
 unfolding opened is_accepted
 accepted_ok own limits first e = go (values_ok own limits) (ap is_accepted e)
   where
-    go : (t : Bool) → is_accepted (cond t Accepted (Refused OutOfBounds)) ≡ true → t ≡ true
+    go : (t : Bool) → is_accepted (cond t (Ok tt) (Err OutOfBounds)) ≡ true → t ≡ true
     go true e = refl
     go false e = absurd (clash false e refl)

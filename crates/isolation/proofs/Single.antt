@@ -1,10 +1,10 @@
 -- One session decides as its rules do. Only this file knows what a session does.
+use Rattle.std.specs.Prelude.{None, Ok, Option, Result, Some, ℕ, ⊤, is_some}
 use Prim.Native.Nat.{ℕ, suc, ◌+◌, ◌*◌, ◌-◌, ◌/◌, ◌≤◌, ◌<◌, min}
 use mathlib.Core.Path.{◌≡◌, refl, sym, ap, ap₂, ◌∙◌, subst}
 use lib.Seq.{paste}
 use mathlib.Core.Logic.{◌⊎◌, inl, inr}
 use mathlib.Core.Bool.{and_assoc, or_comm, Bool, true, false, cond, not, ◌&&◌, ◌||◌}
-use mathlib.Core.Option.{Option, none, some}
 use mathlib.Core.List.{List, [], ◌∷◌}
 use native.Mathlib.Omega.{arith}
 use native.Mathlib.Decide.{ℕ_discrete}
@@ -33,12 +33,8 @@ use Rattle.progress.specs.Requests.{asked_count, requested_by}
 use Rattle.progress.specs.Asked.{asked_from}
 use Rattle.progress.specs.declared.wait.Wait.TheVariants.{First, Second}
 use Rattle.session.specs.declared.Session.{Session}
-use Rattle.session.specs.declared.State.{State}
-use Rattle.session.specs.declared.State.TheVariants as is
 use Rattle.session.specs.declared.Change.TheVariants as change
 use Rattle.session.specs.declared.Step.{Step}
-use Rattle.session.specs.declared.announcement.Form.{Form}
-use Rattle.session.specs.declared.announcement.Form.TheVariants as form
 use Rattle.session.specs.declared.segment.Judged.{Judged}
 use Rattle.session.specs.declared.segment.Judged.TheVariants as judged
 use Rattle.session.specs.Announcements as S
@@ -50,9 +46,7 @@ use Rattle.session.specs.Decisions.{stays, refused, rejection, is_restart, for_k
 use Rattle.session.specs.Bounds.{session_ok}
 use Rattle.session.specs.InBounds.{KeyTaken, Sound, opened_ok, moved_ok, asked_ok, sound_of}
 use Rattle.session.specs.Laws.{Taking, takes_taking}
-use Rattle.slots.specs.declared.Found.{Found}
-use Rattle.slots.specs.declared.Found.TheVariants.{At, Nothing}
-use Rattle.slots.specs.Slots.{slot_for, state_in, is_at}
+use Rattle.slots.specs.Slots.{slot_for, state_in}
 use Rattle.receiver.specs.declared.Receiver.{Receiver}
 use Rattle.receiver.specs.Calls.{Outcome, apply, stored, stored_by, slot_of}
 use Rattle.isolation.specs.Standard.{Cause, pgn_wrong, numbers_wrong, too_long, assured, key_open, eight_open, out_of_order, unlike_announced, requests_spent, number_for, in_pgn_form}
@@ -79,13 +73,13 @@ pub record Mine (v : Values) (k : ℕ) : Type 0 where
 
 -- ---- what an own frame asks of the session, and the store after it
 
-abbrev pub asked : State → Bool → ℕ → ℕ → Key → Body → Step
+abbrev pub asked : Option Session → Bool → ℕ → ℕ → Key → Body → Step
 asked y room slot last κ (announce a) = announced_to y room κ a last
 asked y room slot last κ (segment format n x) = segment_to y (record { format = format; number = record { 0 = n }; room = length x }) last
 asked y room slot last κ (status st) = status_to y slot st last
 asked y room slot last κ (abort pgn) = abort_to y pgn
 
-abbrev pub leaves : Body → Step → Found → State → List ℕ → List ℕ → List ℕ
+abbrev pub leaves : Body → Step → Option ℕ → Option Session → List ℕ → List ℕ → List ℕ
 leaves (announce a) st f y d m = m
 leaves (segment format n x) st f y d m = stored_by st.change f y n d m
 leaves (status s) st f y d m = m
@@ -94,9 +88,9 @@ leaves (abort pgn) st f y d m = m
 -- the slot for the key is found, its session is asked, and the change is applied
 abbrev pub body_step : Receiver → Key → Body → List ℕ → List ℕ → Outcome
 body_step r κ b d m =
-    let f : Found = slot_for κ r.slots in
-    let y : State = state_in f r.slots in
-    let st : Step = asked y (is_at f) (slot_of f) r.last κ b in
+    let f : Option ℕ = slot_for κ r.slots in
+    let y : Option Session = state_in f r.slots in
+    let st : Step = asked y (is_some f) (slot_of f) r.last κ b in
     (apply r f st, leaves b st f y d m)
 
 -- a segment's data are the frame's from byte 5 on
@@ -108,7 +102,7 @@ Reads d (abort pgn) = Unit {0}
 
 -- ---- refusals, whatever the session
 
-module _ (v : Values) (k : ℕ) (f : Found) (m : List ℕ) (x : Option Open) (y : State) where
+module _ (v : Values) (k : ℕ) (f : Option ℕ) (m : List ℕ) (x : Option Open) (y : Option Session) where
   refuse_tied : (n : Refusal) → Tied v k f m x y (refused n) m (x, refuse (number_of n))
   unfolding reply_of says_of touches
   refuse_tied n = record { reply = refl; only = λ j ne. refl; changed = (refl, refl) }
@@ -122,7 +116,7 @@ module _ (v : Values) (k : ℕ) (f : Found) (m : List ℕ) (x : Option Open) (y 
 
   -- an announcement; what is left is one of good form
   announce_tied : Mine v k → (eight room : Bool) (last : ℕ) (a : Announcement)
-      → (S.misdirected (key_at k).da a.kind ≡ false → form_of a ≡ form.Good → a.assurance ≡ 0
+      → (S.misdirected (key_at k).da a.kind ≡ false → form_of a ≡ Ok tt → a.assurance ≡ 0
       → Tied v k f m x y (for_key y room (key_at k) a last) m (admitted k last eight x a))
       → Tied v k f m x y (announced_to y room (key_at k) a last) m (announced v.own k last eight x a)
   unfolding announced_to announced form_of
@@ -136,13 +130,13 @@ module _ (v : Values) (k : ℕ) (f : Found) (m : List ℕ) (x : Option Open) (y 
       walk Formed (not (pgn_ok a.pgn)) (not (in_pgn_form a.pgn)) (ap not (pgn_same a.pgn)) (λ _. reject_tied a pgn_wrong) (λ pgn.
       good aimed (rw (bad, long, sure, pgn)) (eqb-true a.assurance 0 (not-false (eqb a.assurance 0) sure)))))))
     where
-      Formed : Form → Out → Type 0
+      Formed : Result ⊤ Refusal → Out → Type 0
       Formed z q = Tied v k f m x y (on_form z y room (key_at k) a last) m q
 
 -- ---- an announcement that is accepted opens in the slot found, whatever was there
 
-module _ (v : Values) (k : ℕ) (f : Found) (m : List ℕ) (whole : length m ≡ 32768) (me : Mine v k) (last : ℕ) where
-  opens_tied : (x : Option Open) (y : State) (i : ℕ) → f ≡ At i → (a : Announcement) → S.misdirected (key_at k).da a.kind ≡ false → form_of a ≡ form.Good → a.assurance ≡ 0
+module _ (v : Values) (k : ℕ) (f : Option ℕ) (m : List ℕ) (whole : length m ≡ 32768) (me : Mine v k) (last : ℕ) where
+  opens_tied : (x : Option Open) (y : Option Session) (i : ℕ) → f ≡ Some i → (a : Announcement) → S.misdirected (key_at k).da a.kind ≡ false → form_of a ≡ Ok tt → a.assurance ≡ 0
       → Tied v k f m x y (D.opening (key_at k) a last) m (opens k last a)
   unfolding opens reply_of says_of touches cts sent is_taken
   opens_tied x y i e a aimed good sure = record {
@@ -190,25 +184,25 @@ module _ (v : Values) (k : ℕ) (f : Found) (m : List ℕ) (whole : length m ≡
   -- ---- a key that is closed
 
   -- `eight` says that there is no slot
-  room_tied : (eight : Bool) → eight ≡ not (is_at f) → (a : Announcement) → S.misdirected (key_at k).da a.kind ≡ false → form_of a ≡ form.Good → a.assurance ≡ 0
-      → Tied v k f m none is.Closed (for_key is.Closed (is_at f) (key_at k) a last) m (admitted k last eight none a)
+  room_tied : (eight : Bool) → eight ≡ not (is_some f) → (a : Announcement) → S.misdirected (key_at k).da a.kind ≡ false → form_of a ≡ Ok tt → a.assurance ≡ 0
+      → Tied v k f m None None (for_key None (is_some f) (key_at k) a last) m (admitted k last eight None a)
   unfolding admitted
   room_tied eight e a aimed good sure = rw e (go f refl)
     where
-      go : (g : Found) → f ≡ g → Tied v k f m none is.Closed (for_key is.Closed (is_at g) (key_at k) a last) m (cond (not (is_at g)) (none, reject k a eight_open) (opens k last a))
-      go (At i) h = opens_tied none is.Closed i h a aimed good sure
-      go Nothing h = reject_tied v k f m none is.Closed a eight_open
+      go : (g : Option ℕ) → f ≡ g → Tied v k f m None None (for_key None (is_some g) (key_at k) a last) m (cond (not (is_some g)) (None, reject k a eight_open) (opens k last a))
+      go (Some i) h = opens_tied None None i h a aimed good sure
+      go None h = reject_tied v k f m None None a eight_open
 
-  pub shut_tied : (eight : Bool) → eight ≡ not (is_at f) → (b : Body) (d : List ℕ)
-      → Tied v k f m none is.Closed (asked is.Closed (is_at f) (slot_of f) last (key_at k) b)
-      (leaves b (asked is.Closed (is_at f) (slot_of f) last (key_at k) b) f is.Closed d m) (rule v k last eight none b)
+  pub shut_tied : (eight : Bool) → eight ≡ not (is_some f) → (b : Body) (d : List ℕ)
+      → Tied v k f m None None (asked None (is_some f) (slot_of f) last (key_at k) b)
+      (leaves b (asked None (is_some f) (slot_of f) last (key_at k) b) f None d m) (rule v k last eight None b)
   unfolding rule segment_to status_to abort_to
-  shut_tied eight e (announce a) d = announce_tied v k f m none is.Closed me eight (is_at f) last a (room_tied eight e a)
+  shut_tied eight e (announce a) d = announce_tied v k f m None None me eight (is_some f) last a (room_tied eight e a)
   shut_tied eight e (segment format n z) d =
-      walk (λ (st : Step) (q : Out). Tied v k f m none is.Closed st (stored_by st.change f is.Closed n d m) q) (not (eqb format 0)) (not (eqb format 0)) refl
-      (λ _. refuse_tied v k f m none is.Closed FormatIndicator) (λ _. refuse_tied v k f m none is.Closed KeyNotOpen)
-  shut_tied eight e (status st) d = refuse_tied v k f m none is.Closed KeyNotOpen
-  shut_tied eight e (abort pgn) d = refuse_tied v k f m none is.Closed KeyNotOpen
+      walk (λ (st : Step) (q : Out). Tied v k f m None None st (stored_by st.change f None n d m) q) (not (eqb format 0)) (not (eqb format 0)) refl
+      (λ _. refuse_tied v k f m None None FormatIndicator) (λ _. refuse_tied v k f m None None KeyNotOpen)
+  shut_tied eight e (status st) d = refuse_tied v k f m None None KeyNotOpen
+  shut_tied eight e (abort pgn) d = refuse_tied v k f m None None KeyNotOpen
 
 -- ---- a key that is open, in slot i
 
@@ -232,7 +226,7 @@ module _ (v : Values) (k i : ℕ) (low : suc i ≤ 8) (m : List ℕ) (whole : le
   segments = ρ.told.segments.0
 
   abbrev Ties : Step → List ℕ → Out → Type 0
-  Ties st m' q = Tied v k (At i) m (some ρ) (is.Open s) st m' q
+  Ties st m' q = Tied v k (Some i) m (Some ρ) (Some s) st m' q
 
   -- a refusal that ends the session
   ends_tied : (c : Cause) → Ties (D.ended s (refusal_for c)) m (closes k ρ c)
@@ -299,7 +293,7 @@ module _ (v : Values) (k i : ℕ) (low : suc i ≤ 8) (m : List ℕ) (whole : le
       take_part m whole i low ρ.told.total.0 most
       ∙ sym (joined_gathered ρ.told.total.0 ρ.told.segments.0 (part i m) ρ.pieces count_fact rel.pieces e)
 
-  handed_tied : length ρ.pieces ≡ ρ.told.segments.0 → Ties (hands_over i s) m (none, hand_over k ρ.told (joined ρ.told.segments.0 ρ.pieces))
+  handed_tied : length ρ.pieces ≡ ρ.told.segments.0 → Ties (hands_over i s) m (None, hand_over k ρ.told (joined ρ.told.segments.0 ρ.pieces))
   unfolding reply_of says_of touches hand_over
   handed_tied e = record {
     reply = ap₂ (λ (b : List ℕ) (w : Option P.Wire). record { number = 0; says = handed (key_at k) ρ.told.kind ρ.told.total.0 ρ.told.segments.0 ρ.told.pgn b; sends = w })
@@ -392,7 +386,7 @@ module _ (v : Values) (k i : ℕ) (low : suc i ≤ 8) (m : List ℕ) (whole : le
         only = λ j ne. other_key k j ne;
         changed = record { slot = i; found = refl; ses = tt; store = within_self i m whole };
       })
-      (λ _. refuse_tied v k (At i) m (some ρ) (is.Open s) KeyNotOpen)
+      (λ _. refuse_tied v k (Some i) m (Some ρ) (Some s) KeyNotOpen)
 
   -- ---- a segment
 
@@ -512,18 +506,18 @@ module _ (v : Values) (k i : ℕ) (low : suc i ≤ 8) (m : List ℕ) (whole : le
 
   segment_tied : (n : ℕ) (d : List ℕ)
       → let st : Step = D.segment_open s n (length (data_at d)) last in
-      Ties st (stored_by st.change (At i) (is.Open s) n d m) (R.segment_open k last ρ n (data_at d))
+      Ties st (stored_by st.change (Some i) (Some s) n d m) (R.segment_open k last ρ n (data_at d))
   unfolding R.segment_open judged_of
   segment_tied n d =
-      walk Judges (eqb n 0 || already_in s n) (eqb n 0 || is_taken n ρ.pieces) before (λ _. refuse_tied v k (At i) m (some ρ) (is.Open s) AlreadyTaken) (λ a.
+      walk Judges (eqb n 0 || already_in s n) (eqb n 0 || is_taken n ρ.pieces) before (λ _. refuse_tied v k (Some i) m (Some ρ) (Some s) AlreadyTaken) (λ a.
       walk Judges (out_of_turn s n || ltb ρ.told.segments.0 n) (R.out_of_turn ρ n || ltb ρ.told.segments.0 n) turn (λ _. ends_tied out_of_order) (λ b.
       let l₀ : n ≡ 0 → ⊥ = eqb-false n 0 (or_left (eqb n 0) (already_in s n) a) in
       walk Judges (ltb (length (data_at d)) (due_of ρ.told.total.0 n)) (ltb (length (data_at d)) (due ρ.told.total.0 n))
-      (rw (due_same ρ.told.total.0 n (omega arith))) (λ _. refuse_tied v k (At i) m (some ρ) (is.Open s) SegmentCut) (λ c.
+      (rw (due_same ρ.told.total.0 n (omega arith))) (λ _. refuse_tied v k (Some i) m (Some ρ) (Some s) SegmentCut) (λ c.
       adds_tied n d (length (data_at d)) (rw (a, b, c)) (or_right (eqb n 0) (is_taken n ρ.pieces) (before ∙ a)) (ltb-false (length (data_at d)) (due_of ρ.told.total.0 n) c))))
     where
       Judges : Judged → Out → Type 0
-      Judges j q = let st : Step = on_judged j s n last in Ties st (stored_by st.change (At i) (is.Open s) n d m) q
+      Judges j q = let st : Step = on_judged j s n last in Ties st (stored_by st.change (Some i) (Some s) n d m) q
 
       before : (eqb n 0 || is_taken n ρ.pieces) ≡ (eqb n 0 || already_in s n)
       before = by_test (eqb n 0)
@@ -539,24 +533,24 @@ module _ (v : Values) (k i : ℕ) (low : suc i ≤ 8) (m : List ℕ) (whole : le
   unfolding starts_anew
   anew_same a = ap (λ (t : Bool). t && eqb a.pgn ρ.told.pgn) (kind_same a.kind)
 
-  again_tied : (eight room : Bool) (a : Announcement) → S.misdirected (key_at k).da a.kind ≡ false → form_of a ≡ form.Good → a.assurance ≡ 0
-      → Ties (for_key (is.Open s) room (key_at k) a last) m (admitted k last eight (some ρ) a)
+  again_tied : (eight room : Bool) (a : Announcement) → S.misdirected (key_at k).da a.kind ≡ false → form_of a ≡ Ok tt → a.assurance ≡ 0
+      → Ties (for_key (Some s) room (key_at k) a last) m (admitted k last eight (Some ρ) a)
   unfolding admitted
   again_tied eight room a aimed good sure =
       walk (λ (z : Step) (q : Out). Ties z m q) (is_restart s a) (starts_anew a ρ) (anew_same a)
-      (λ _. opens_tied v k (At i) m whole me last (some ρ) (is.Open s) i refl a aimed good sure)
-      (λ _. reject_tied v k (At i) m (some ρ) (is.Open s) a key_open)
+      (λ _. opens_tied v k (Some i) m whole me last (Some ρ) (Some s) i refl a aimed good sure)
+      (λ _. reject_tied v k (Some i) m (Some ρ) (Some s) a key_open)
 
   -- ---- an own frame, by what it says
 
   pub held_tied : (eight room : Bool) (b : Body) (d : List ℕ) → Reads d b
-      → let y : State = is.Open s in
-      Ties (asked y room i last (key_at k) b) (leaves b (asked y room i last (key_at k) b) (At i) y d m) (rule v k last eight (some ρ) b)
+      → let y : Option Session = Some s in
+      Ties (asked y room i last (key_at k) b) (leaves b (asked y room i last (key_at k) b) (Some i) y d m) (rule v k last eight (Some ρ) b)
   unfolding rule segment_to status_to abort_to
   held_tied eight room (announce a) d e =
-      announce_tied v k (At i) m (some ρ) (is.Open s) me eight room last a (again_tied eight room a)
+      announce_tied v k (Some i) m (Some ρ) (Some s) me eight room last a (again_tied eight room a)
   held_tied eight room (segment format n z) d e =
-      rw e (walk (λ (st : Step) (q : Out). Ties st (stored_by st.change (At i) (is.Open s) n d m) q) (not (eqb format 0)) (not (eqb format 0)) refl
-      (λ _. refuse_tied v k (At i) m (some ρ) (is.Open s) FormatIndicator) (λ _. segment_tied n d))
+      rw e (walk (λ (st : Step) (q : Out). Ties st (stored_by st.change (Some i) (Some s) n d m) q) (not (eqb format 0)) (not (eqb format 0)) refl
+      (λ _. refuse_tied v k (Some i) m (Some ρ) (Some s) FormatIndicator) (λ _. segment_tied n d))
   held_tied eight room (status st) d e = status_tied st
   held_tied eight room (abort pgn) d e = abort_tied pgn

@@ -1,4 +1,5 @@
 -- The slots as a list: what the searches find.
+use Rattle.std.specs.Prelude.{None, Option, Some}
 use Prim.Native.Nat.{ℕ, zero, suc, ◌+◌, ◌*◌, ◌<◌, suc-le-suc}
 use mathlib.Core.Path.{◌≡◌, refl, sym, ap, ◌∙◌}
 use mathlib.Core.Bool.{Bool, true, false, ◌&&◌}
@@ -9,31 +10,27 @@ use lib.ListN.{length, get_or}
 use borrow.Author.Tests.{eqb-true, eq-eqb}
 use Rattle.transport.specs.declared.Key.{Key}
 use Rattle.session.specs.declared.Session.{Session}
-use Rattle.slots.specs.declared.Slot.{Slot}
-use Rattle.session.specs.declared.State.{State}
-use Rattle.session.specs.declared.State.TheVariants.{Closed, Open}
-use Rattle.slots.specs.declared.Found.TheVariants.{At, Nothing}
-use Rattle.slots.specs.Slots.{same_key, state_holds, holds_key, key_place, free_slot}
+use Rattle.slots.specs.Slots.{same_key, holds_key, key_place, free_slot}
 use Rattle.slots.specs.Searches.{first_some, from_none}
 use Rattle.isolation.specs.OwnFrames.{key_at}
 use Rattle.isolation.specs.Observe.{open_at}
 use Rattle.isolation.proofs.Tests.{or-false, clash, and_left, and_right, both, same_test}
 
 abbrev pub Slots : Type 0
-Slots = List Slot
+Slots = List (Option Session)
 
-abbrev pub at : Slots → ℕ → State
-at l i = (get_or l i free_slot).state
+abbrev pub at : Slots → ℕ → Option Session
+at l i = (get_or l i free_slot)
 
 -- a slot holds key k
-unfoldable pub holds : ℕ → State → Bool
+unfoldable pub holds : ℕ → Option Session → Bool
 holds k x = open_at k x
 
 -- as the receiver tests it
-pub holds_same : (k : ℕ) (x : State) → state_holds (key_at k) x ≡ holds k x
+pub holds_same : (k : ℕ) (x : Option Session) → holds_key (key_at k) x ≡ holds k x
 unfolding holds
-holds_same k Closed = refl
-holds_same k (Open s) = refl
+holds_same k None = refl
+holds_same k (Some s) = refl
 
 -- ---- keys and their numbers
 
@@ -93,17 +90,17 @@ own_key k = keys_same (key_at k) (key_at k) refl
 
 -- ---- what a slot holds
 
-pub open_key : (k : ℕ) (s : Session) → holds k (Open s) ≡ true → s.announced.key ≡ key_at k
+pub open_key : (k : ℕ) (s : Session) → holds k (Some s) ≡ true → s.announced.key ≡ key_at k
 unfolding holds
 open_key k s e = same_keys s.announced.key (key_at k) e
 
-pub holds_one : (j k : ℕ) (x : State) → holds j x ≡ true → holds k x ≡ true → j ≡ k
+pub holds_one : (j k : ℕ) (x : Option Session) → holds j x ≡ true → holds k x ≡ true → j ≡ k
 unfolding holds
-holds_one j k Closed e f = absurd (clash false e refl)
-holds_one j k (Open s) e f =
+holds_one j k None e f = absurd (clash false e refl)
+holds_one j k (Some s) e f =
     sym (number_of_lem j) ∙ ap key_number (sym (same_keys s.announced.key (key_at j) e) ∙ same_keys s.announced.key (key_at k) f) ∙ number_of_lem k
 
-pub holds_free : (k : ℕ) → holds k Closed ≡ false
+pub holds_free : (k : ℕ) → holds k None ≡ false
 unfolding holds
 holds_free k = refl
 
@@ -115,10 +112,10 @@ holds_inside k (x ∷ l) (suc i) e = suc-le-suc (holds_inside k l i e)
 
 -- ---- the searches
 
-pub find_some : (k : ℕ) (l : Slots) (i : ℕ) → key_place (key_at k) l ≡ At i → (holds k (at l i) ≡ true) × (i < length l)
+pub find_some : (k : ℕ) (l : Slots) (i : ℕ) → key_place (key_at k) l ≡ Some i → (holds k (at l i) ≡ true) × (i < length l)
 find_some k l i e = let r = first_some free_slot (holds_key (key_at k)) l i e in (sym (holds_same k (at l i)) ∙ r.0, r.1)
 
-pub find_none : (k : ℕ) (l : Slots) → key_place (key_at k) l ≡ Nothing → (i : ℕ) → holds k (at l i) ≡ false
+pub find_none : (k : ℕ) (l : Slots) → key_place (key_at k) l ≡ None → (i : ℕ) → holds k (at l i) ≡ false
 find_none k l e i =
     or-false (holds k (at l i)) (λ t. clash (holds k (at l i)) t (sym (holds_same k (at l i)) ∙ from_none free_slot (holds_key (key_at k)) l 0 e i (holds_inside k l i t)))
 

@@ -1,4 +1,5 @@
 -- P8 to P12 of document 01's table, on the definitions of the calls.
+use Rattle.std.specs.Prelude.{Ok, Some}
 use Prim.Native.Nat.{ℕ, zero, suc, ◌+◌}
 use mathlib.Core.Path.{◌≡◌, refl}
 use mathlib.Core.List.{List, [], ◌∷◌, ◌++◌}
@@ -21,11 +22,8 @@ use Rattle.session.specs.Segments.{due_of, judged_of}
 use Rattle.session.specs.Ends.{elapsed}
 use Rattle.session.specs.declared.Session.{Session}
 use Rattle.receiver.specs.declared.Receiver.{Receiver}
-use Rattle.session.specs.declared.State.TheVariants as is
 use Rattle.answer.specs.declared.Answer.{Answer}
 use Rattle.answer.specs.declared.Answer.TheVariants.{Groups, Opened, Taken, Grant, HandedOver, Aborted, Ended, RefusedRts, Refused}
-use Rattle.answer.specs.declared.End.TheVariants as end
-use Rattle.answer.specs.declared.Acceptance.TheVariants as acceptance
 use Rattle.slots.specs.Slots.{free_slot}
 use Rattle.slots.specs.Bounds.{slots_ok}
 use Rattle.receiver.specs.Bounds.{in_bounds, opened}
@@ -104,7 +102,7 @@ held wait =
       own = record { 0 = 33 };
       limits = limits;
       last = 4294967290;
-      slots = record { state = is.Open (session wait) } ∷ replicate 7 free_slot;
+      slots = Some (session wait) ∷ replicate 7 free_slot;
     }
 
 abbrev pub StaysAt : Wait → ℕ → Type 0
@@ -112,7 +110,7 @@ StaysAt wait t =
     reading_step (held wait) t m
     ≡ record {
       next = record { own = record { 0 = 33 }; limits = limits; last = t; slots = (held wait).slots };
-      answer = acceptance.Accepted;
+      answer = (Ok tt);
       ends = replicate 8 stays;
     }
 
@@ -122,8 +120,8 @@ EndsAt wait t =
     reading_step (held wait) t m
     ≡ record {
       next = record { own = record { 0 = 33 }; limits = limits; last = t; slots = replicate 8 free_slot };
-      answer = acceptance.Accepted;
-      ends = record { end = end.Ended (ending_of (session wait) Silence) } ∷ replicate 7 stays;
+      answer = (Ok tt);
+      ends = Some (ending_of (session wait) Silence) ∷ replicate 7 stays;
     }
 
 -- ---- the rows, as one statement

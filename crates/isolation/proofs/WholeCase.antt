@@ -1,7 +1,7 @@
 -- The whole case of document 01's "Program", as the theorem observes it for key 128, 33, 3.
+use Rattle.std.specs.Prelude.{Ok, None, Some}
 use Prim.Native.Nat.{ℕ, ◌+◌, ◌*◌}
 use mathlib.Core.Path.{◌≡◌, refl}
-use mathlib.Core.Option.{none, some}
 use mathlib.Core.List.{List, [], ◌∷◌}
 use lib.ListN.{replicate}
 use Rattle.segments.specs.Digits.{digit}
@@ -18,7 +18,6 @@ use Rattle.session.specs.Announcements.{form_of}
 use Rattle.session.specs.Decisions.{announced_to, segment_to}
 use Rattle.session.specs.Segments.{due_of, judged_of}
 use Rattle.session.specs.Ends.{elapsed}
-use Rattle.answer.specs.declared.Acceptance.TheVariants.{Accepted}
 use Rattle.slots.specs.Bounds.{slots_ok}
 use Rattle.receiver.specs.Bounds.{in_bounds, opened}
 use Rattle.receiver.specs.Calls.{announce_step, control_step, segment_step, frame_all, reading_step}
@@ -45,7 +44,7 @@ calls =
 abbrev limits : IdleLimits
 limits = record { first = 1250; second = 1250 }
 
-accepted : (opened (record { 0 = 33 }) limits 0).answer ≡ Accepted
+accepted : (opened (record { 0 = 33 }) limits 0).answer ≡ Ok tt
 unfolding opened
 accepted = refl
 
@@ -55,9 +54,9 @@ whole_case_lem : observed (record { own = record { 0 = 33 }; limits = limits }) 
     ∷ answer (record {
       number = 0;
       says = granted (key_at k) 1 2 65226;
-      sends = some (0x1C4D8021, 0x31 ∷ 255 ∷ 255 ∷ 255 ∷ 1 ∷ 0 ∷ 0 ∷ 2 ∷ 0 ∷ 0xCA ∷ 0xFE ∷ 0 ∷ []);
+      sends = Some (0x1C4D8021, 0x31 ∷ 255 ∷ 255 ∷ 255 ∷ 1 ∷ 0 ∷ 0 ∷ 2 ∷ 0 ∷ 0xCA ∷ 0xFE ∷ 0 ∷ []);
     })
-    ∷ answer (record { number = 0; says = took (key_at k) 2; sends = none })
+    ∷ answer (record { number = 0; says = took (key_at k) 2; sends = None })
     ∷ []
 unfolding opened in_bounds slots_ok frame_all judged by_format control_step control_of announce_step form_of announced_to grant_of
     data_frame_of segment_step segment_to judged_of is_in missing_of digit due_of reading_step elapsed Groups.groups_read Groups.read_from response_bytes id_to

@@ -1,12 +1,11 @@
 -- When a record is in bounds, fact by fact: 01, "Numbered refusals", what it says of a state in bounds, and 02, E4 and E6. Rounding, the form
 -- of a PGN and the count over a record of segments are the rules' own.
-use Rattle.std.specs.Prelude.{ℕ, zero, suc, ◌+◌, ◌*◌, ◌/◌, ◌%◌, ◌^◌, ◌≤◌, ◌<◌, ◌≡◌, true, false, cond, eqb, get_or}
+use Rattle.std.specs.Prelude.{ℕ, zero, suc, ◌+◌, ◌*◌, ◌/◌, ◌%◌, ◌^◌, ◌≤◌, ◌<◌, ◌≡◌, true, false, cond, eqb, get_or, Some}
 use Rattle.frame.specs.declared.Address.{Address}
 use Rattle.segments.specs.declared.Segments.{Segments}
 use Rattle.progress.specs.declared.Progress.{Progress}
 use Rattle.progress.specs.declared.wait.Wait.TheVariants.{Second}
 use Rattle.session.specs.declared.Session.{Session}
-use Rattle.session.specs.declared.State.TheVariants as slot
 use Rattle.slots.specs.Slots.{free_slot}
 use Rattle.receiver.specs.declared.Receiver.{Receiver}
 use Rattle.isolation.specs.Standard.{in_pgn_form}
@@ -54,6 +53,6 @@ pub record RecordIn (r : Receiver) : Type 0 where
   pub first_high : r.limits.first ≤ 60000
   pub second_low : 1 ≤ r.limits.second
   pub second_high : r.limits.second ≤ 60000
-  pub sessions : (i : ℕ) (s : Session) → (get_or r.slots i free_slot).state ≡ slot.Open s → SessionIn r.own s
-  pub apart : (i j : ℕ) (s t : Session) → (get_or r.slots i free_slot).state ≡ slot.Open s → (get_or r.slots j free_slot).state ≡ slot.Open t
+  pub sessions : (i : ℕ) (s : Session) → (get_or r.slots i free_slot) ≡ Some s → SessionIn r.own s
+  pub apart : (i j : ℕ) (s t : Session) → (get_or r.slots i free_slot) ≡ Some s → (get_or r.slots j free_slot) ≡ Some t
       → s.announced.key ≡ t.announced.key → i ≡ j

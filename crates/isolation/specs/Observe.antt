@@ -1,18 +1,11 @@
 -- What the receiver shows for one key over a list of calls, leaving out slots and places in the store.
-use Rattle.std.specs.Prelude.{ℕ, Bool, true, false, cond, not, ◌&&◌, ◌||◌, List, [], ◌∷◌, ◌++◌, map, eqb}
-use Rattle.std.proofs.Math.Option.{Option, none, some}
+use Rattle.std.specs.Prelude.{ℕ, Bool, true, false, cond, not, ◌&&◌, ◌||◌, List, [], ◌∷◌, ◌++◌, map, eqb, None, Option, Some}
 use Rattle.frame.specs.Refusals.{number_of}
 use Rattle.transport.specs.declared.Key.{Key}
 use Rattle.receiver.specs.declared.Receiver.{Receiver}
-use Rattle.slots.specs.declared.Slot.{Slot}
-use Rattle.session.specs.declared.State.{State}
-use Rattle.session.specs.declared.State.TheVariants as slot
 use Rattle.answer.specs.declared.Ending.{Ending}
 use Rattle.answer.specs.declared.Answer.{Answer}
 use Rattle.answer.specs.declared.Answer.TheVariants.{Groups, Opened, Taken, Grant, HandedOver, Aborted, Ended, RefusedRts, Refused}
-use Rattle.answer.specs.declared.End.{End}
-use Rattle.answer.specs.declared.End.TheVariants as end
-use Rattle.answer.specs.declared.SlotEnd.{SlotEnd}
 use Rattle.receiver.specs.Calls.{Elapsed}
 use Rattle.receiver.specs.Calls.{Outcome, frame_all, reading_step}
 use Rattle.answer.specs.Answers.{answer_number, acceptance_number, answer_sends, end_sends, wire_of}
@@ -21,6 +14,7 @@ use Rattle.isolation.specs.OwnFrames.{key_at, frame_key, Body, body_of}
 use Rattle.isolation.specs.Replies.{Reply, Says, nothing, opened, took, granted, handed, aborted, ended, rejected}
 use Rattle.isolation.specs.Rules.{Values, Seen, answer, reading, stray}
 use Rattle.isolation.specs.World.{frame, clock, Call, lent, elsewhere}
+use Rattle.session.specs.declared.Session.{Session}
 
 -- ---- keys
 
@@ -29,14 +23,14 @@ abbrev pub is_key : ℕ → Key → Bool
 is_key k κ =
     eqb κ.sa.0 (key_at k).sa.0 && eqb κ.da.0 (key_at k).da.0 && eqb κ.session.0 (key_at k).session.0
 
-abbrev pub open_at : ℕ → State → Bool
-open_at k slot.Closed = false
-open_at k (slot.Open s) = is_key k s.announced.key
+abbrev pub open_at : ℕ → Option Session → Bool
+open_at k None = false
+open_at k (Some s) = is_key k s.announced.key
 
 -- some slot has the key open
-unfoldable pub open_in : ℕ → List Slot → Bool
+unfoldable pub open_in : ℕ → List (Option Session) → Bool
 open_in k [] = false
-open_in k (s ∷ ss) = open_at k s.state || open_in k ss
+open_in k (s ∷ ss) = open_at k s || open_in k ss
 
 -- ---- answers
 
@@ -73,8 +67,8 @@ touches k (Refused n) = false
 
 -- the frame is the key's own, by the document
 unfoldable pub is_body : Option Body → Bool
-is_body none = false
-is_body (some b) = true
+is_body None = false
+is_body (Some b) = true
 
 unfoldable pub is_own : Values → ℕ → ℕ → List ℕ → Bool
 is_own v k id d = is_body (body_of v.own id d) && eqb (frame_key id d) k
@@ -104,17 +98,17 @@ end_reply e =
     record {
       number = number_of e.refusal;
       says = ended e.key e.kind e.pgn;
-      sends = wire_of (end_sends (end.Ended e));
+      sends = wire_of (end_sends (Some e));
     }
 
 -- the endings of key k, of one slot and of all
-unfoldable pub ending_of : ℕ → End → List Reply
-ending_of k end.Stays = []
-ending_of k (end.Ended e) = cond (is_key k e.key) (end_reply e ∷ []) []
+unfoldable pub ending_of : ℕ → Option Ending → List Reply
+ending_of k None = []
+ending_of k (Some e) = cond (is_key k e.key) (end_reply e ∷ []) []
 
-unfoldable pub endings_of : ℕ → List SlotEnd → List Reply
+unfoldable pub endings_of : ℕ → List (Option Ending) → List Reply
 endings_of k [] = []
-endings_of k (s ∷ ss) = ending_of k s.end ++ endings_of k ss
+endings_of k (s ∷ ss) = ending_of k s ++ endings_of k ss
 
 -- its number and the key's endings
 abbrev pub reading_seen_as : ℕ → List Reply → List Seen

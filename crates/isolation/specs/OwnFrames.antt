@@ -1,7 +1,6 @@
 -- Which frames are a key's own: 01, the last paragraph of "Transfer frames". Taken from other crates: where the bits of an identifier and
 -- the bytes of a frame are.
-use Rattle.std.specs.Prelude.{ℕ, ◌+◌, ◌*◌, ◌/◌, ◌%◌, ◌^◌, Bool, true, false, cond, not, ◌&&◌, ◌||◌, List, eqb, ltb, length}
-use Rattle.std.proofs.Math.Option.{Option, none, some}
+use Rattle.std.specs.Prelude.{ℕ, ◌+◌, ◌*◌, ◌/◌, ◌%◌, ◌^◌, Bool, true, false, cond, not, ◌&&◌, ◌||◌, List, eqb, ltb, length, None, Option, Some}
 use Rattle.frame.specs.declared.Address.{Address}
 use Rattle.frame.specs.Identifiers.{identifier_of}
 use Rattle.transport.specs.declared.Key.{Key}
@@ -44,16 +43,16 @@ pub data Body : Type 0 where
 -- RTS 0, BAM 4, EOMS 2, Abort 15 in the originator's role, in 12 bytes
 unfoldable pub control_body : List ℕ → Option Body
 control_body d =
-    cond (not (eqb (length d) 12)) none
-    (cond (eqb (control_at d) 0) (some (announce (announcement_at Rts d)))
-    (cond (eqb (control_at d) 4) (some (announce (announcement_at Bam d)))
-    (cond (eqb (control_at d) 2) (some (status (status_at d)))
-    (cond (eqb (control_at d) 15 && eqb (role_at d) 0) (some (abort (abort_pgn_at d)))
-    none))))
+    cond (not (eqb (length d) 12)) None
+    (cond (eqb (control_at d) 0) (Some (announce (announcement_at Rts d)))
+    (cond (eqb (control_at d) 4) (Some (announce (announcement_at Bam d)))
+    (cond (eqb (control_at d) 2) (Some (status (status_at d)))
+    (cond (eqb (control_at d) 15 && eqb (role_at d) 0) (Some (abort (abort_pgn_at d)))
+    None))))
 
 -- a data frame has 5 bytes at least
 unfoldable pub data_body : List ℕ → Option Body
-data_body d = cond (ltb (length d) 5) none (some (segment (format_at d) (number_at d) (data_at d)))
+data_body d = cond (ltb (length d) 5) None (Some (segment (format_at d) (number_at d) (data_at d)))
 
 -- 29 bits; a CAN FD length; both pages 0; DA the own address or 255; SA not 254, 255 or the own address
 unfoldable pub taken : Address → ℕ → List ℕ → Bool
@@ -69,10 +68,10 @@ taken own id d =
 -- what an own frame says; none for any other frame. PF 77 is a control frame, 78 a data frame
 unfoldable pub body_of : Address → ℕ → List ℕ → Option Body
 body_of own id d =
-    cond (not (taken own id d)) none
+    cond (not (taken own id d)) None
     (cond (eqb (identifier_of id).pf 77) (control_body d)
     (cond (eqb (identifier_of id).pf 78) (data_body d)
-    none))
+    None))
 
 -- ---- RTS or BAM
 

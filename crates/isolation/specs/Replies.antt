@@ -1,7 +1,6 @@
 -- What the rules answer to an own frame: 01, "Numbered refusals" and "Life of a session". Taken from transport: how
 -- the bytes of a frame are written.
-use Rattle.std.specs.Prelude.{ℕ, cond, List}
-use Rattle.std.proofs.Math.Option.{Option, none, some}
+use Rattle.std.specs.Prelude.{ℕ, cond, List, None, Option, Some}
 use Rattle.transport.specs.declared.Key.{Key}
 use Rattle.transport.specs.declared.Kind.{Kind}
 use Rattle.transport.specs.declared.announcement.Announcement.{Announcement}
@@ -39,7 +38,7 @@ pub record Reply : Type 0 where
   pub sends : Option Wire
 
 unfoldable pub sent : Response → Option Wire
-sent f = some (response_id f, response_bytes f)
+sent f = Some (response_id f, response_bytes f)
 
 -- an Abort, by its cause
 abbrev pub abort_frame : ℕ → Cause → ℕ → Response
@@ -53,7 +52,7 @@ eoma_frame k a = response.Eoma (record { key = key_at k; total = a.total; segmen
 
 -- a refusal by which nothing is sent
 abbrev pub refuse : ℕ → Reply
-refuse n = record { number = n; says = nothing; sends = none }
+refuse n = record { number = n; says = nothing; sends = None }
 
 -- an announcement refused: an RTS is answered by Abort, a BAM by nothing
 unfoldable pub reject : ℕ → Announcement → Cause → Reply
@@ -68,7 +67,7 @@ ending k a c =
     record {
       number = number_for c;
       says = ended (key_at k) a.kind a.pgn;
-      sends = cond (is_rts a.kind) (sent (abort_frame k c a.pgn)) none;
+      sends = cond (is_rts a.kind) (sent (abort_frame k c a.pgn)) None;
     }
 
 unfoldable pub cts : ℕ → ℕ → ℕ → ℕ → Reply
@@ -76,7 +75,7 @@ cts k next count pgn =
     record { number = 0; says = granted (key_at k) next count pgn; sends = sent (cts_frame k next count pgn) }
 
 abbrev pub plain : Says → Reply
-plain s = record { number = 0; says = s; sends = none }
+plain s = record { number = 0; says = s; sends = None }
 
 -- the message, with EOMA for RTS
 unfoldable pub hand_over : ℕ → Announcement → List ℕ → Reply
@@ -84,5 +83,5 @@ hand_over k a bytes =
     record {
       number = 0;
       says = handed (key_at k) a.kind a.total.0 a.segments.0 a.pgn bytes;
-      sends = cond (is_rts a.kind) (sent (eoma_frame k a)) none;
+      sends = cond (is_rts a.kind) (sent (eoma_frame k a)) None;
     }

@@ -1,7 +1,6 @@
 -- One session by itself: 01, "One session by itself", with the checks, answers and marks of "Life of a session", as 02 changes them. One
 -- key; no slots, no store.
-use Rattle.std.specs.Prelude.{ℕ, zero, suc, ◌+◌, ◌-◌, ◌*◌, ◌/◌, ◌%◌, ◌^◌, Bool, true, false, cond, not, ◌&&◌, ◌||◌, List, [], ◌∷◌, ◌++◌, eqb, leb, ltb, length, take}
-use Rattle.std.proofs.Math.Option.{Option, none, some}
+use Rattle.std.specs.Prelude.{ℕ, zero, suc, ◌+◌, ◌-◌, ◌*◌, ◌/◌, ◌%◌, ◌^◌, Bool, true, false, cond, not, ◌&&◌, ◌||◌, List, [], ◌∷◌, ◌++◌, eqb, leb, ltb, length, take, None, Option, Some}
 use Rattle.frame.specs.declared.Address.{Address}
 use Rattle.transport.specs.declared.Kind.{Kind}
 use Rattle.transport.specs.declared.Kind.TheVariants.{Rts, Bam}
@@ -47,8 +46,8 @@ abbrev pub Out : Type 0
 Out = Option Open × Reply
 
 unfoldable pub is_open : Option Open → Bool
-is_open none = false
-is_open (some r) = true
+is_open None = false
+is_open (Some r) = true
 
 unfoldable pub is_taken : ℕ → List Piece → Bool
 is_taken n [] = false
@@ -95,7 +94,7 @@ grant max left = least (least max 16) left
 unfoldable pub opens : ℕ → ℕ → Announcement → Out
 opens k last a =
     let count : ℕ = grant a.max a.segments.0 in (
-      some (record {
+      Some (record {
         told = a;
         mark = last;
         wait = cond (is_rts a.kind) First Second;
@@ -113,8 +112,8 @@ starts_anew a r = is_rts a.kind && eqb a.pgn r.told.pgn
 -- one in good form. A closed key opens, or 15 where eight others are open. An open one opens anew, with none taken, whatever others are
 -- open; or 14
 unfoldable pub admitted : ℕ → ℕ → Bool → Option Open → Announcement → Out
-admitted k last eight none a = cond eight (none, reject k a eight_open) (opens k last a)
-admitted k last eight (some r) a = cond (starts_anew a r) (opens k last a) (some r, reject k a key_open)
+admitted k last eight None a = cond eight (None, reject k a eight_open) (opens k last a)
+admitted k last eight (Some r) a = cond (starts_anew a r) (opens k last a) (Some r, reject k a key_open)
 
 -- 11 with nothing sent, 11, 12, 13, 8, then by the session
 unfoldable pub announced : Address → ℕ → ℕ → Bool → Option Open → Announcement → Out
@@ -134,7 +133,7 @@ due total n = cond (leb (60 * n) total) 60 (total - 60 * (n - 1))
 
 -- the session ends by a refusal
 abbrev pub closes : ℕ → Open → Cause → Out
-closes k r c = (none, ending k r.told c)
+closes k r c = (None, ending k r.told c)
 
 -- the last segment granted, and segments remain after it; once missing ones were asked for, no segment brings a CTS (02, E6)
 unfoldable pub spent : Open → ℕ → Bool
@@ -145,7 +144,7 @@ spent r n = is_rts r.told.kind && (eqb n r.granted && (ltb n r.told.segments.0 &
 unfoldable pub adds : ℕ → ℕ → Open → ℕ → List ℕ → Out
 adds k last r n d =
     let count : ℕ = grant r.told.max (r.told.segments.0 - n) in (
-      some (record {
+      Some (record {
         told = r.told;
         mark = last;
         wait = cond (spent r n) First Second;
@@ -163,9 +162,9 @@ out_of_turn r n = not (is_rts r.told.kind) && ltb (next_of r) n
 -- 18, 19, 20
 unfoldable pub segment_open : ℕ → ℕ → Open → ℕ → List ℕ → Out
 segment_open k last r n d =
-    cond (eqb n 0 || is_taken n r.pieces) (some r, refuse 18)
+    cond (eqb n 0 || is_taken n r.pieces) (Some r, refuse 18)
     (cond (out_of_turn r n || ltb r.told.segments.0 n) (closes k r out_of_order)
-    (cond (ltb (length d) (due r.told.total.0 n)) (some r, refuse 20)
+    (cond (ltb (length d) (due r.told.total.0 n)) (Some r, refuse 20)
     (adds k last r n d)))
 
 -- ---- the end
@@ -195,7 +194,7 @@ unfoldable pub asks : ℕ → ℕ → Open → Out
 asks k last r =
     let n : ℕ = first_missing r.told.segments.0 1 r.pieces in
     let count : ℕ = grant r.told.max (missing_run (r.told.segments.0 + 1 - n) n r.pieces) in (
-      some (record {
+      Some (record {
         told = r.told;
         mark = last;
         wait = First;
@@ -215,18 +214,18 @@ lacks k last r =
 unfoldable pub status_open : ℕ → ℕ → Open → Status → Out
 status_open k last r s =
     cond (not (as_announced r s)) (closes k r unlike_announced)
-    (cond (eqb (length r.pieces) r.told.segments.0) (none, hand_over k r.told (joined r.told.segments.0 r.pieces))
+    (cond (eqb (length r.pieces) r.told.segments.0) (None, hand_over k r.told (joined r.told.segments.0 r.pieces))
     (lacks k last r))
 
 unfoldable pub abort_open : ℕ → Open → ℕ → Out
-abort_open k r pgn = cond (eqb pgn r.told.pgn) (none, plain (aborted (key_at k))) (some r, refuse 16)
+abort_open k r pgn = cond (eqb pgn r.told.pgn) (None, plain (aborted (key_at k))) (Some r, refuse 16)
 
 -- ---- an own frame of key k. `eight`: eight other keys are open
 
 -- by the session, if it is open; else 16
 abbrev pub if_open : Option Open → (Open → Out) → Out
-if_open none f = (none, refuse 16)
-if_open (some r) f = f r
+if_open None f = (None, refuse 16)
+if_open (Some r) f = f r
 
 unfoldable pub rule : Values → ℕ → ℕ → Bool → Option Open → Body → Out
 rule v k last eight x (announce a) = announced v.own k last eight x a
@@ -247,12 +246,12 @@ is_silent v t r = leb (limit_in v.limits r.wait) (since r.mark t)
 
 -- the session after the reading, and its ending if it ends
 unfoldable pub judged_at : Values → ℕ → Option Open → Option Open
-judged_at v t none = none
-judged_at v t (some r) = cond (is_silent v t r) none (some r)
+judged_at v t None = None
+judged_at v t (Some r) = cond (is_silent v t r) None (Some r)
 
 unfoldable pub ends_at : Values → ℕ → ℕ → Option Open → List Reply
-ends_at v k t none = []
-ends_at v k t (some r) = cond (is_silent v t r) (ending k r.told silent ∷ []) []
+ends_at v k t None = []
+ends_at v k t (Some r) = cond (is_silent v t r) (ending k r.told silent ∷ []) []
 
 -- ---- the rules over what they see and are told
 
@@ -282,4 +281,4 @@ outputs v k s (x ∷ xs) = output v k s x ∷ outputs v k (next_state v k s x) x
 
 -- closed, with the opening's reading
 abbrev pub fresh : ℕ → State
-fresh first = record { last = first; session = none }
+fresh first = record { last = first; session = None }

@@ -1,14 +1,12 @@
 -- The state of the rules that a record and a store stand for: each key's session as its slot and the slot's bytes have it.
-use Rattle.std.specs.Prelude.{ℕ, zero, suc, ◌+◌, ◌*◌, Bool, cond, List, [], ◌∷◌, get_or, take, drop}
-use Rattle.std.proofs.Math.Option.{Option, none, some}
+use Rattle.std.specs.Prelude.{ℕ, zero, suc, ◌+◌, ◌*◌, Bool, cond, List, [], ◌∷◌, get_or, take, drop, None, Option, Some}
 use Rattle.receiver.specs.declared.Receiver.{Receiver}
-use Rattle.session.specs.declared.State.{State}
-use Rattle.session.specs.declared.State.TheVariants as slot
 use Rattle.session.specs.Segments.{already_in}
 use Rattle.slots.specs.Slots.{key_place, free_slot, on_found}
 use Rattle.isolation.specs.OwnFrames.{key_at}
 use Rattle.isolation.specs.Rules.{Values, Open, Piece, due}
 use Rattle.isolation.specs.World.{World}
+use Rattle.session.specs.declared.Session.{Session}
 
 abbrev pub values_of : Receiver → Values
 values_of r = record { own = r.own; limits = r.limits }
@@ -22,10 +20,10 @@ pieces_of is_in i m total (suc n) =
     (pieces_of is_in i m total n)
 
 -- those in the record of an RTS, and below a BAM's next, are in; no session announces assurance data
-unfoldable pub open_of : ℕ → List ℕ → State → Option Open
-open_of i m slot.Closed = none
-open_of i m (slot.Open s) =
-    some (record {
+unfoldable pub open_of : ℕ → List ℕ → Option Session → Option Open
+open_of i m None = None
+open_of i m (Some s) =
+    Some (record {
       told = record {
         kind = s.announced.kind;
         total = s.announced.total;
@@ -45,5 +43,5 @@ unfoldable pub stands_for : Receiver → List ℕ → World
 stands_for r m =
     λ k. record {
       last = r.last;
-      session = on_found (key_place (key_at k) r.slots) (λ i. open_of i m (get_or r.slots i free_slot).state) none;
+      session = on_found (key_place (key_at k) r.slots) (λ i. open_of i m (get_or r.slots i free_slot)) None;
     }

@@ -1,6 +1,5 @@
 -- All keys at once, each by its own rules: what the rules of one key see of the calls made, and what they are told.
-use Rattle.std.specs.Prelude.{ℕ, zero, suc, ◌≡◌, Bool, true, false, cond, not, ◌&&◌, List, [], ◌∷◌, ◌++◌, eqb, leb, length}
-use Rattle.std.proofs.Math.Option.{Option, none, some}
+use Rattle.std.specs.Prelude.{ℕ, zero, suc, ◌≡◌, Bool, true, false, cond, not, ◌&&◌, List, [], ◌∷◌, ◌++◌, eqb, leb, length, None, Option, Some}
 use Rattle.isolation.specs.OwnFrames.{all_keys, frame_key, Body, announce, segment, status, abort, body_of}
 use Rattle.isolation.specs.Rules.{Values, State, is_open, Input, mine, now, next_state}
 
@@ -39,8 +38,8 @@ is_announcement (abort pgn) = false
 
 -- a frame of key j: only k's rules see it, and only at an announcement are they told of the others
 unfoldable pub sees_body : World → ℕ → ℕ → Option Body → List Input
-sees_body w k j none = []
-sees_body w k j (some b) = cond (eqb j k) (mine (is_announcement b && eight_others w k) b ∷ []) []
+sees_body w k j None = []
+sees_body w k j (Some b) = cond (eqb j k) (mine (is_announcement b && eight_others w k) b ∷ []) []
 
 unfoldable pub sees : Values → World → ℕ → Call → List Input
 sees v w k (lent (frame id d)) = sees_body w k (frame_key id d) (body_of v.own id d)

@@ -1,12 +1,11 @@
 -- A slot of a record, by its bytes.
-use Rattle.std.specs.Prelude.{ℕ, ◌+◌, ◌<◌, ◌≡◌, refl, Bool, true, false, cond, not, ◌&&◌, List, [], eqb, length, get_or, drop}
+use Rattle.std.specs.Prelude.{ℕ, ◌+◌, ◌<◌, ◌≡◌, refl, Bool, true, false, cond, not, ◌&&◌, List, [], eqb, length, get_or, drop, None, Some}
 use Rattle.std.proofs.Common.{arith, sym, ap, ◌∙◌}
 use Rattle.std.proofs.lemmas.List.{length-map}
 use Rattle.std.proofs.Math.ListN.{get_or-map}
 use Rattle.transport.specs.declared.Key.{Key}
 use Rattle.session.specs.declared.Session.{Session}
-use Rattle.session.specs.declared.State.TheVariants.{Closed, Open}
-use Rattle.slots.specs.Slots.{free_slot, free_state, is_free, state_holds, holds_key}
+use Rattle.slots.specs.Slots.{free_slot, is_free, holds_key}
 use Rattle.record_bytes.specs.Places.{head_length, slot_length, state_place, sa_place, da_place, session_place, slot_place}
 use Rattle.record_bytes.specs.Layout.{session_at, slot_at, pieces_of, slots_at}
 use Rattle.record_bytes.specs.Pieces.{length_pieces, byte_of}
@@ -17,7 +16,7 @@ length_slots b = length-map (pieces_of b) slot_at ∙ length_pieces 8 (drop head
 pub slot_of_lem : (b : List ℕ) (i : ℕ) → get_or (slots_at b) i free_slot ≡ slot_at (get_or (pieces_of b) i [])
 slot_of_lem b i = get_or-map slot_at (pieces_of b) i []
 
-free_when : (s : Session) (t : Bool) → not t ≡ free_state (cond t (Open s) Closed)
+free_when : (s : Session) (t : Bool) → not t ≡ is_free (cond t (Some s) None)
 free_when s true = refl
 free_when s false = refl
 
@@ -41,7 +40,7 @@ key_open_at k b at =
 
 holds_when : (k : Key) (s : Session) (t : Bool)
     → (let h : Key = s.announced.key in
-    (t && eqb h.sa.0 k.sa.0 && eqb h.da.0 k.da.0 && eqb h.session.0 k.session.0) ≡ state_holds k (cond t (Open s) Closed))
+    (t && eqb h.sa.0 k.sa.0 && eqb h.da.0 k.da.0 && eqb h.session.0 k.session.0) ≡ holds_key k (cond t (Some s) None))
 holds_when k s true = refl
 holds_when k s false = refl
 

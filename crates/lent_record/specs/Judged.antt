@@ -1,7 +1,7 @@
 -- A record's pieces judged one after the other, and that this is the judgement of codes and slots.
 use Prim.Native.Nat.{ℕ, zero, suc, ◌+◌, ◌<◌}
 use native.Mathlib.Omega.{arith}
-use Rattle.std.specs.Prelude.{◌≡◌, refl, Bool, true, false, cond, ◌&&◌, ◌||◌, eqb, length, take, drop}
+use Rattle.std.specs.Prelude.{◌≡◌, refl, Bool, true, false, cond, ◌&&◌, ◌||◌, eqb, length, take, drop, None, Option, Some}
 use Rattle.std.proofs.Math.Path.{sym, ap, ap₂}
 use Rattle.std.proofs.Common.{◌∙◌, add-one, eqb-true, eq-eqb}
 use Rattle.std.proofs.Math.Bool.{not, and-true, and_assoc}
@@ -12,13 +12,10 @@ use Rattle.laws.specs.Bools.{same_test, both, and_same, and_left_comm, guarded}
 use Rattle.laws.specs.Turn.{turn, end}
 use Rattle.frame.specs.declared.Address.{Address}
 use Rattle.session.specs.declared.Session.{Session}
-use Rattle.slots.specs.declared.Slot.{Slot}
 use Rattle.transport.specs.declared.Key.{Key}
-use Rattle.session.specs.declared.State.{State}
-use Rattle.session.specs.declared.State.TheVariants.{Closed, Open}
 use Rattle.session.specs.Bounds.{session_ok, state_ok}
 use Rattle.slots.specs.Slots.{free_slot, same_key}
-use Rattle.slots.specs.Bounds.{values_ok, any_holds, state_twin, twin_of, slots_ok}
+use Rattle.slots.specs.Bounds.{values_ok, any_holds, twin_of, slots_ok}
 use Rattle.receiver.specs.Bounds.{in_bounds}
 use Rattle.record_bytes.specs.Places.{record_length, head_length, slot_length, state_place, kind_place, wait_place, slot_place}
 use Rattle.record_bytes.specs.Layout.{is_code, codes_ok, codes_in, session_at, slot_at, pieces_of, slots_at, codes_all, is_record, record_at}
@@ -39,7 +36,7 @@ pieces_ready own qs (p ∷ ps) = (eqb (get_or p state_place 0) 0 || open_ready o
 -- ---- the same as all codes, and then all slots, each of which has no twin after it
 
 -- no key of the first is open in the second
-abbrev cross : List Slot → List Slot → Bool
+abbrev cross : List (Option Session) → List (Option Session) → Bool
 cross [] ss = true
 cross (q ∷ qs) ss = not (twin_of q ss) && cross qs ss
 
@@ -53,31 +50,31 @@ exchanged : (h a b c : Bool) → (not (h || a) && (not b && c)) ≡ (not (h || b
 exchanged true a b c = refl
 exchanged false a b c = and_left_comm (not a) (not b) c
 
-module _ (ss : List Slot) where
+module _ (ss : List (Option Session)) where
   -- c: what holds of the slots before x, by which it holds of those and y
-  one_more : (qs : List Slot) (y x : State) → cross qs (record { state = x } ∷ ss) ≡ (not (state_twin x qs) && cross qs ss)
-      → (not (state_twin y (record { state = x } ∷ ss)) && cross qs (record { state = x } ∷ ss))
-      ≡ (not (state_twin x (record { state = y } ∷ qs)) && (not (state_twin y ss) && cross qs ss))
-  one_more qs Closed Closed e = e
-  one_more qs Closed (Open s) e = e
-  one_more qs (Open t) Closed e = ap (λ (u : Bool). not (any_holds t.announced.key ss) && u) e
-  one_more qs (Open t) (Open s) e =
+  one_more : (qs : List (Option Session)) (y x : Option Session) → cross qs (x ∷ ss) ≡ (not (twin_of x qs) && cross qs ss)
+      → (not (twin_of y (x ∷ ss)) && cross qs (x ∷ ss))
+      ≡ (not (twin_of x (y ∷ qs)) && (not (twin_of y ss) && cross qs ss))
+  one_more qs None None e = e
+  one_more qs None (Some s) e = e
+  one_more qs (Some t) None e = ap (λ (u : Bool). not (any_holds t.announced.key ss) && u) e
+  one_more qs (Some t) (Some s) e =
       ap₂ (λ (h u : Bool). not (h || any_holds t.announced.key ss) && u) (key_swap s.announced.key t.announced.key) e
       ∙ exchanged (same_key t.announced.key s.announced.key) (any_holds t.announced.key ss) (any_holds s.announced.key qs) (cross qs ss)
 
   -- a slot has no twin among those before it exactly where none of them has it for a twin
-  twins_swap : (qs : List Slot) (x : State) → cross qs (record { state = x } ∷ ss) ≡ (not (state_twin x qs) && cross qs ss)
-  twins_swap [] Closed = refl
-  twins_swap [] (Open s) = refl
-  twins_swap (q ∷ qs) x = one_more qs q.state x (twins_swap qs x)
+  twins_swap : (qs : List (Option Session)) (x : Option Session) → cross qs (x ∷ ss) ≡ (not (twin_of x qs) && cross qs ss)
+  twins_swap [] None = refl
+  twins_swap [] (Some s) = refl
+  twins_swap (q ∷ qs) x = one_more qs q x (twins_swap qs x)
 
-lone : (x : State) → not (state_twin x []) ≡ true
-lone Closed = refl
-lone (Open s) = refl
+lone : (x : Option Session) → not (twin_of x []) ≡ true
+lone None = refl
+lone (Some s) = refl
 
-no_twins : (qs : List Slot) → cross qs [] ≡ true
+no_twins : (qs : List (Option Session)) → cross qs [] ≡ true
 no_twins [] = refl
-no_twins (q ∷ qs) = both _ _ (lone q.state) (no_twins qs)
+no_twins (q ∷ qs) = both _ _ (lone q) (no_twins qs)
 
 -- q: the codes; o: the bounds; t, u: a twin before and after; c, r, d: what is to come
 in_order : (q o t u c r d : Bool) → (q && o && not t && (c && r && (not u && d))) ≡ (cond (not q) false c && (o && not u && r) && (not t && d))
@@ -94,10 +91,10 @@ in_order true true false true true false d = refl
 in_order true true false false true r d = refl
 
 -- x: the first byte is 0; y: it is 1; q: the kind and the wait are codes
-by_code : (own : Address) (s : Session) (qs ss : List Slot) (x y q c r d : Bool) → (x ≡ true → y ≡ true → false ≡ true)
-    → ((x || ((x || (y && q)) && session_ok own s && not (any_holds s.announced.key qs))) && (c && r && (not (state_twin (cond y (Open s) Closed) ss) && d)))
-    ≡ (cond (not (x || (y && q))) false c && (state_ok own (cond y (Open s) Closed) && not (state_twin (cond y (Open s) Closed) ss) && r)
-    && (not (state_twin (cond y (Open s) Closed) qs) && d))
+by_code : (own : Address) (s : Session) (qs ss : List (Option Session)) (x y q c r d : Bool) → (x ≡ true → y ≡ true → false ≡ true)
+    → ((x || ((x || (y && q)) && session_ok own s && not (any_holds s.announced.key qs))) && (c && r && (not (twin_of (cond y (Some s) None) ss) && d)))
+    ≡ (cond (not (x || (y && q))) false c && (state_ok own (cond y (Some s) None) && not (twin_of (cond y (Some s) None) ss) && r)
+    && (not (twin_of (cond y (Some s) None) qs) && d))
 by_code own s qs ss true true q c r d only = absurd (false≢true (only refl refl))
 by_code own s qs ss true false q c r d only = refl
 by_code own s qs ss false true q c r d only =
@@ -113,8 +110,8 @@ after own qs [] = sym (no_twins (map slot_at qs))
 after own qs (p ∷ ps) =
     let n : ℕ = get_or p state_place 0 in
     let q : Bool = is_code (get_or p kind_place 0) && is_code (get_or p wait_place 0) in
-    let σ : State = cond (eqb n 1) (Open (session_at p)) Closed in
-    let S : List (List ℕ) → List Slot = map slot_at in
+    let σ : Option Session = cond (eqb n 1) (Some (session_at p)) None in
+    let S : List (List ℕ) → List (Option Session) = map slot_at in
     ap (λ (t : Bool). (eqb n 0 || open_ready own p qs) && t) (after own (p ∷ qs) ps)
     ∙ by_code own (session_at p) (S qs) (S ps) (eqb n 0) (eqb n 1) q (codes_all ps) (slots_ok own (S ps)) (cross (S qs) (S ps)) (two_codes n)
     ∙ ap (λ (t : Bool). codes_all (p ∷ ps) && slots_ok own (S (p ∷ ps)) && t) (sym (twins_swap (S ps) (S qs) σ))
@@ -131,7 +128,7 @@ before f (suc i) = f i ∷ before f i
 abbrev pub pieces_before : List ℕ → ℕ → List (List ℕ)
 pieces_before b = before (λ (j : ℕ). get_or (pieces_of b) j [])
 
-abbrev pub slots_before : List ℕ → ℕ → List Slot
+abbrev pub slots_before : List ℕ → ℕ → List (Option Session)
 slots_before b = before (λ (j : ℕ). get_or (slots_at b) j free_slot)
 
 abbrev pub ready_at : Address → List ℕ → ℕ → Bool
@@ -188,7 +185,7 @@ eight_ready own b x y z w ex ey ez ew =
 
 slots_before_lem : (b : List ℕ) (n : ℕ) → slots_before b n ≡ map slot_at (pieces_before b n)
 slots_before_lem b zero = refl
-slots_before_lem b (suc n) = ap₂ (λ (s : Slot) (ss : List Slot). s ∷ ss) (slot_of_lem b n) (slots_before_lem b n)
+slots_before_lem b (suc n) = ap₂ (λ (s : Option Session) (ss : List (Option Session)). s ∷ ss) (slot_of_lem b n) (slots_before_lem b n)
 
 module _ (own : Address) (b : List ℕ) (i : ℕ) (h : i < 8) where
   module _ (x : Bool) (ex : x ≡ codes_ok (get_or b (slot_place i) 0) (get_or b (slot_place i + kind_place) 0) (get_or b (slot_place i + wait_place) 0)) where
@@ -198,7 +195,7 @@ module _ (own : Address) (b : List ℕ) (i : ℕ) (h : i < 8) where
     judged y z s es ey ez =
         let at : ℕ = slot_place i in
         let p : List ℕ = get_or (pieces_of b) i [] in
-        let ss : List Slot = slots_before b i in
+        let ss : List (Option Session) = slots_before b i in
         let e : at ≡ at + state_place = omega arith in
         ap (λ (u : Bool). u && y && not z) (ex
         ∙ ap (λ (n : ℕ). codes_ok n (get_or b (at + kind_place) 0) (get_or b (at + wait_place) 0)) (ap (λ (m : ℕ). get_or b m 0) e ∙ sym (byte_of b i state_place h (omega arith)))
@@ -206,7 +203,7 @@ module _ (own : Address) (b : List ℕ) (i : ℕ) (h : i < 8) where
         ∙ ap (λ (u : Bool). codes_in p && u && not z) ey
         ∙ ap (λ (u : Bool). codes_in p && session_ok own s && not u) ez
         ∙ ap (λ (v : Session). codes_in p && session_ok own v && not (any_holds v.announced.key ss)) (es ∙ ap session_at (sym (piece_of b i h)))
-        ∙ ap (λ (l : List Slot). codes_in p && session_ok own (session_at p) && not (any_holds (session_at p).announced.key l)) (slots_before_lem b i)
+        ∙ ap (λ (l : List (Option Session)). codes_in p && session_ok own (session_at p) && not (any_holds (session_at p).announced.key l)) (slots_before_lem b i)
 
     pub no_codes : x ≡ false → false ≡ open_ready own (get_or (pieces_of b) i []) (pieces_before b i)
     no_codes f =

@@ -36,8 +36,8 @@ pub fn limits_of(bytes: &[u8]) -> IdleLimits
 }
 
 // Whether slot i, which is not free, has codes, is in bounds, and has no twin before it.
-fn open_ready(bytes: &[u8], i: usize, own: Address) -> bool
-    requires { (length bytes.now ≡ record_length) × (i < 8) }
+fn open_ready(bytes: &[u8; RECORD_BYTES], i: usize, own: Address) -> bool
+    requires { i < 8 }
     ensures { result ≡ open_ready own (get_or (pieces_of bytes.now) i []) (pieces_before bytes.now i) }
 {
     let at = HEAD_BYTES + SLOT_BYTES * i;
@@ -53,8 +53,8 @@ fn open_ready(bytes: &[u8], i: usize, own: Address) -> bool
 }
 
 // Slots i and i + 1: a free one costs one byte's test.
-fn two_ready(bytes: &[u8], i: usize, own: Address) -> bool
-    requires { (length bytes.now ≡ record_length) × (i < 7) }
+fn two_ready(bytes: &[u8; RECORD_BYTES], i: usize, own: Address) -> bool
+    requires { i < 7 }
     ensures { result ≡ two_ready own bytes.now i }
 {
     let at = HEAD_BYTES + SLOT_BYTES * i;
@@ -70,8 +70,7 @@ fn two_ready(bytes: &[u8], i: usize, own: Address) -> bool
 }
 
 // All eight, by twos and not in a loop: the place of each slot is then known where this is compiled.
-fn slots_ready(bytes: &[u8], own: Address) -> bool
-    requires { length bytes.now ≡ record_length }
+fn slots_ready(bytes: &[u8; RECORD_BYTES], own: Address) -> bool
     ensures { result ≡ pieces_ready own [] (pieces_of bytes.now) }
 {
     if !two_ready(bytes, 0, own) {
@@ -86,13 +85,10 @@ fn slots_ready(bytes: &[u8], own: Address) -> bool
     two_ready(bytes, 6, own)
 }
 
-// Whether the buffer is a record in bounds, and a store of so many bytes has the right length.
-pub fn is_ready(bytes: &[u8], store: usize) -> bool
+// Whether what has a record's length is a record in bounds, and a store of so many bytes has the right length.
+pub fn is_in_bounds(bytes: &[u8; RECORD_BYTES], store: usize) -> bool
     ensures { result ≡ ready_in bytes.now store }
 {
-    if bytes.len() != RECORD_BYTES {
-        return false;
-    }
     if store != Receiver::SLOTS * Receiver::SLOT_BYTES {
         return false;
     }
@@ -101,4 +97,14 @@ pub fn is_ready(bytes: &[u8], store: usize) -> bool
         return false;
     }
     slots_ready(bytes, own)
+}
+
+// The same of any buffer.
+pub fn is_ready(bytes: &[u8], store: usize) -> bool
+    ensures { result ≡ ready_in bytes.now store }
+{
+    match bytes.as_array::<RECORD_BYTES>() {
+        Some(record) => is_in_bounds(record, store),
+        None => false,
+    }
 }

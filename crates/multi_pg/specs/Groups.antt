@@ -1,17 +1,10 @@
 -- What a Multi-PG frame says: 01, "Groups in one frame", with trailers as E5 of 02 and 001, 6.5.3 have them.
-use Rattle.std.specs.Prelude.{ℕ, zero, suc, ◌+◌, ◌-◌, ◌*◌, ◌/◌, ◌%◌, Bool, cond, not, List, [], ◌∷◌, map, leb, ltb, length, get_or, take, drop}
+use Rattle.std.specs.Prelude.{ℕ, zero, suc, ◌+◌, ◌-◌, ◌*◌, ◌/◌, ◌%◌, Bool, cond, not, List, [], ◌∷◌, map, leb, ltb, length, get_or, take, drop, Option, Some, None, Result, Ok, Err}
 use Rattle.frame.specs.Pgn.{pgn_ok}
 use Rattle.frame.specs.declared.refusal.Refusal.{Refusal}
 use Rattle.frame.specs.declared.refusal.Refusal.TheVariants.{HeaderCut, DataCut, PgnForm}
 use Rattle.multi_pg.specs.declared.Group.{Group}
-use Rattle.multi_pg.specs.declared.header.Service.{Service}
-use Rattle.multi_pg.specs.declared.header.Service.TheVariants as service
-use Rattle.multi_pg.specs.declared.Step.{Step}
-use Rattle.multi_pg.specs.declared.Step.TheVariants as step
-use Rattle.multi_pg.specs.declared.Judgement.{Judgement}
-use Rattle.multi_pg.specs.declared.Judgement.TheVariants as judgement
-use Rattle.multi_pg.specs.declared.Next.{Next}
-use Rattle.multi_pg.specs.declared.Next.TheVariants as next
+use Rattle.multi_pg.specs.declared.Cursor.{Cursor}
 use Rattle.multi_pg.specs.Services.{service_of}
 
 -- ---- the header of a group at a place
@@ -44,23 +37,23 @@ abbrev pub end_of : Group → ℕ
 end_of g = trailer_start g + g.trailer
 
 -- a whole header that begins a group with a trailer of n bytes: 8; 5 where the length byte says less than n or passes the frame's end
-abbrev pub headed_at : List ℕ → ℕ → ℕ → Step
+abbrev pub headed_at : List ℕ → ℕ → ℕ → Result (Option Group) Refusal
 headed_at d at n =
-    cond (not (pgn_ok (pgn_at d at))) (step.Fault PgnForm)
-    (cond (ltb (payload d at) n) (step.Fault DataCut)
-    (cond (ltb (length d - at - 4) (payload d at)) (step.Fault DataCut)
-    (step.At (group_at d at n))))
+    cond (not (pgn_ok (pgn_at d at))) (Err PgnForm)
+    (cond (ltb (payload d at) n) (Err DataCut)
+    (cond (ltb (length d - at - 4) (payload d at)) (Err DataCut)
+    (Ok (Some (group_at d at n)))))
 
 -- by what the first byte says: the end; else 4 where the header is cut, before 6 and 7
-abbrev pub on_service : Service → Bool → (ℕ → Step) → Step
-on_service service.Padding cut group = step.End
-on_service (service.Refused r) cut group = step.Fault (cond cut HeaderCut r)
-on_service (service.Group n) cut group = cond cut (step.Fault HeaderCut) (group n)
+abbrev pub on_service : Result (Option ℕ) Refusal → Bool → (ℕ → Result (Option Group) Refusal) → Result (Option Group) Refusal
+on_service (Ok None) cut group = Ok None
+on_service (Err r) cut group = Err (cond cut HeaderCut r)
+on_service (Ok (Some n)) cut group = cond cut (Err HeaderCut) (group n)
 
--- what is at a place, in the order of 01 and 02: end, 4, 6, 7, 8, 5
-abbrev pub step_at : List ℕ → ℕ → Step
+-- what is at a place, a group or none at the end; in the order of 01 and 02: end, 4, 6, 7, 8, 5
+abbrev pub step_at : List ℕ → ℕ → Result (Option Group) Refusal
 step_at d at =
-    cond (leb (length d) at) step.End
+    cond (leb (length d) at) (Ok None)
     (on_service (service_of (tos d at) (tf d at)) (ltb (length d - at) 4) (headed_at d at))
 
 -- ---- a whole frame
@@ -75,10 +68,10 @@ after g (good gs) = good (g ∷ gs)
 after g (bad r) = bad r
 
 -- by what is at a place: the end, a fault, or a group and what follows it
-abbrev pub on_step : Step → (Group → GroupsRead) → GroupsRead
-on_step step.End rest = good []
-on_step (step.Fault r) rest = bad r
-on_step (step.At g) rest = after g (rest g)
+abbrev pub on_step : Result (Option Group) Refusal → (Group → GroupsRead) → GroupsRead
+on_step (Ok None) rest = good []
+on_step (Err r) rest = bad r
+on_step (Ok (Some g)) rest = after g (rest g)
 
 -- the groups from a place on, at most n of them
 unfoldable pub read_from : ℕ → List ℕ → ℕ → GroupsRead
@@ -89,9 +82,9 @@ read_from (suc n) d at = on_step (step_at d at) (λ g. read_from n d (end_of g))
 unfoldable pub groups_read : List ℕ → GroupsRead
 groups_read d = read_from (suc (length d)) d 0
 
-abbrev pub judgement_of : GroupsRead → Judgement
-judgement_of (good gs) = judgement.Good
-judgement_of (bad r) = judgement.Refused r
+abbrev pub judgement_of : GroupsRead → Result (Unit {0}) Refusal
+judgement_of (good gs) = Ok tt
+judgement_of (bad r) = Err r
 
 -- a refused frame gives out no group
 abbrev pub groups_in : GroupsRead → List Group
@@ -103,20 +96,20 @@ groups_of d = groups_in (groups_read d)
 
 -- ---- a reader: the place that it has come to
 
-abbrev pub start_at : ℕ → Judgement → ℕ
-start_at n judgement.Good = 0
-start_at n (judgement.Refused r) = n
+abbrev pub start_at : ℕ → Result (Unit {0}) Refusal → ℕ
+start_at n (Ok tt) = 0
+start_at n (Err r) = n
 
 -- where a reader begins: at the end, if the frame is refused
 abbrev pub start_of : List ℕ → ℕ
 start_of d = start_at (length d) (judgement_of (groups_read d))
 
-abbrev pub on_next : Step → Next
-on_next (step.At g) = next.Given g (record { at = end_of g })
-on_next step.End = next.End
-on_next (step.Fault r) = next.End
+abbrev pub on_next : Result (Option Group) Refusal → Option (Group × Cursor)
+on_next (Ok (Some g)) = Some (g, record { at = end_of g })
+on_next (Ok None) = None
+on_next (Err r) = None
 
-abbrev pub next_at : List ℕ → ℕ → Next
+abbrev pub next_at : List ℕ → ℕ → Option (Group × Cursor)
 next_at d at = on_next (step_at d at)
 
 -- ---- what a frame says, without places

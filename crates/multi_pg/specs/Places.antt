@@ -1,5 +1,5 @@
 -- Where a group is, and how a frame is read from place to place: laws of the definitions in Groups.
-use Rattle.std.specs.Prelude.{ℕ, zero, suc, ◌+◌, ◌-◌, ◌≤◌, ◌<◌, ◌≡◌, refl, Bool, true, false, cond, not, List, [], leb, ltb, length}
+use Rattle.std.specs.Prelude.{ℕ, zero, suc, ◌+◌, ◌-◌, ◌≤◌, ◌<◌, ◌≡◌, refl, Bool, true, false, cond, not, List, [], leb, ltb, length, Option, Some, None, Result, Ok, Err}
 use Rattle.std.proofs.Common.{arith, sym, ap, ◌∙◌, le-leb, le-ltb, leb-false, ltb-false}
 use Rattle.std.proofs.lemmas.Bool.{false≢true, lt-leb, not-false}
 use Rattle.laws.specs.Choice.{then, else}
@@ -7,11 +7,6 @@ use Rattle.frame.specs.Pgn.{pgn_ok}
 use Rattle.frame.specs.declared.refusal.Refusal.{Refusal}
 use Rattle.multi_pg.specs.declared.Group.{Group}
 use Rattle.multi_pg.specs.declared.Cursor.{Cursor}
-use Rattle.multi_pg.specs.declared.header.Service.{Service}
-use Rattle.multi_pg.specs.declared.header.Service.TheVariants as service
-use Rattle.multi_pg.specs.declared.Step.{Step}
-use Rattle.multi_pg.specs.declared.Step.TheVariants as step
-use Rattle.multi_pg.specs.declared.Next.TheVariants as next
 use Rattle.multi_pg.specs.Services.{service_of}
 use Rattle.multi_pg.specs.Groups.{tos, tf, pgn_at, payload, group_at, end_of, headed_at, on_service, step_at, GroupsRead, good, bad, after, on_step, read_from, groups_read, judgement_of, next_at, on_next}
 
@@ -19,7 +14,7 @@ use Rattle.multi_pg.specs.Groups.{tos, tf, pgn_at, payload, group_at, end_of, he
 
 -- a whole group with a trailer of n bytes is at a place
 pub record Here (d : List ℕ) (at n : ℕ) : Type 0 where
-  pub service : service_of (tos d at) (tf d at) ≡ service.Group n
+  pub service : service_of (tos d at) (tf d at) ≡ Ok (Some n)
   pub form : pgn_ok (pgn_at d at) ≡ true
   pub counted : n ≤ payload d at
   pub whole : at + 4 + payload d at ≤ length d
@@ -28,7 +23,7 @@ pub record Here (d : List ℕ) (at n : ℕ) : Type 0 where
 pub here_end : (d : List ℕ) (at n : ℕ) → Here d at n → end_of (group_at d at n) ≡ at + 4 + payload d at
 here_end d at n p = let c : n ≤ payload d at = p.counted in omega arith
 
-pub here_step : (d : List ℕ) (at n : ℕ) → Here d at n → step_at d at ≡ step.At (group_at d at n)
+pub here_step : (d : List ℕ) (at n : ℕ) → Here d at n → step_at d at ≡ Ok (Some (group_at d at n))
 here_step d at n p =
     let c : n ≤ payload d at = p.counted in
     let w : at + 4 + payload d at ≤ length d = p.whole in
@@ -38,15 +33,15 @@ here_step d at n p =
     (else (not (pgn_ok (pgn_at d at))) _ _ _ (ap not p.form)
     (else (ltb (payload d at) n) _ _ _ (le-ltb (payload d at) n c)
     (else (ltb (length d - at - 4) (payload d at)) _ _ _ (le-ltb (length d - at - 4) (payload d at) (omega arith)) refl)))
-    ∙ ap (λ (s : Service). on_service s (ltb (length d - at) 4) (headed_at d at)) (sym p.service)))
+    ∙ ap (λ (s : Result (Option ℕ) Refusal). on_service s (ltb (length d - at) 4) (headed_at d at)) (sym p.service)))
 
-abbrev is_at : Step → Bool
-is_at (step.At g) = true
-is_at step.End = false
-is_at (step.Fault r) = false
+abbrev is_at : Result (Option Group) Refusal → Bool
+is_at (Ok (Some g)) = true
+is_at (Ok None) = false
+is_at (Err r) = false
 
 -- a test that leads to no group was not met
-passed : (t : Bool) (a b : Step) (g : Group) → is_at a ≡ false → cond t a b ≡ step.At g → (t ≡ false) × (b ≡ step.At g)
+passed : (t : Bool) (a b : Result (Option Group) Refusal) (g : Group) → is_at a ≡ false → cond t a b ≡ Ok (Some g) → (t ≡ false) × (b ≡ Ok (Some g))
 passed true a b g n e = absurd (false≢true (sym n ∙ ap is_at e))
 passed false a b g n e = (refl, e)
 
@@ -56,15 +51,15 @@ pub record Met (d : List ℕ) (at : ℕ) (g : Group) : Type 0 where
   pub here : Here d at n
   pub same : g ≡ group_at d at n
 
-pub step_here : (d : List ℕ) (at : ℕ) (g : Group) → step_at d at ≡ step.At g → Met d at g
+pub step_here : (d : List ℕ) (at : ℕ) (g : Group) → step_at d at ≡ Ok (Some g) → Met d at g
 step_here d at g e₀ =
     let (h₁, e₁) = passed (leb (length d) at) _ _ g refl e₀ in
     by (service_of (tos d at) (tf d at)) refl (leb-false (length d) at h₁) e₁
   where
-    by : (s : Service) → service_of (tos d at) (tf d at) ≡ s → at < length d → on_service s (ltb (length d - at) 4) (headed_at d at) ≡ step.At g → Met d at g
-    by service.Padding q l e = absurd (false≢true (ap is_at e))
-    by (service.Refused r) q l e = absurd (false≢true (ap is_at e))
-    by (service.Group n) q l e =
+    by : (s : Result (Option ℕ) Refusal) → service_of (tos d at) (tf d at) ≡ s → at < length d → on_service s (ltb (length d - at) 4) (headed_at d at) ≡ Ok (Some g) → Met d at g
+    by (Ok None) q l e = absurd (false≢true (ap is_at e))
+    by (Err r) q l e = absurd (false≢true (ap is_at e))
+    by (Ok (Some n)) q l e =
         let (h₂, e₂) = passed (ltb (length d - at) 4) _ _ g refl e in
         let (h₃, e₃) = passed (not (pgn_ok (pgn_at d at))) _ _ g refl e₂ in
         let (h₄, e₄) = passed (ltb (payload d at) n) _ _ g refl e₃ in
@@ -77,13 +72,13 @@ step_here d at g e₀ =
 -- ---- a frame read, place by place
 
 -- what follows a step matters only where there is a group
-same_after : (s : Step) (f h : Group → GroupsRead) → ((g : Group) → s ≡ step.At g → f g ≡ h g) → on_step s f ≡ on_step s h
-same_after (step.At g) f h e = ap (after g) (e g refl)
-same_after step.End f h e = refl
-same_after (step.Fault r) f h e = refl
+same_after : (s : Result (Option Group) Refusal) (f h : Group → GroupsRead) → ((g : Group) → s ≡ Ok (Some g) → f g ≡ h g) → on_step s f ≡ on_step s h
+same_after (Ok (Some g)) f h e = ap (after g) (e g refl)
+same_after (Ok None) f h e = refl
+same_after (Err r) f h e = refl
 
 -- a group takes at least its header, and ends in the frame
-pub step_room : (d : List ℕ) (at : ℕ) (g : Group) → step_at d at ≡ step.At g → (at + 4 ≤ end_of g) × (end_of g ≤ length d)
+pub step_room : (d : List ℕ) (at : ℕ) (g : Group) → step_at d at ≡ Ok (Some g) → (at + 4 ≤ end_of g) × (end_of g ≤ length d)
 step_room d at g e =
     let m = step_here d at g e in
     let w : at + 4 + payload d at ≤ length d = m.here.whole in
@@ -122,34 +117,37 @@ judged_after g (good gs) = refl
 judged_after g (bad r) = refl
 
 module _ (d : List ℕ) (at : ℕ) where
-  pub read_group : (g : Group) → step_at d at ≡ step.At g → read_on d at ≡ after g (read_on d (end_of g))
-  read_group g e = read_turn d at ∙ ap (λ (s : Step). on_step s (λ g. read_on d (end_of g))) e
+  pub read_group : (g : Group) → step_at d at ≡ Ok (Some g) → read_on d at ≡ after g (read_on d (end_of g))
+  read_group g e = read_turn d at ∙ ap (λ (s : Result (Option Group) Refusal). on_step s (λ g. read_on d (end_of g))) e
 
-  pub read_end : step_at d at ≡ step.End → read_on d at ≡ good []
-  read_end e = read_turn d at ∙ ap (λ (s : Step). on_step s (λ g. read_on d (end_of g))) e
+  pub read_end : step_at d at ≡ Ok None → read_on d at ≡ good []
+  read_end e = read_turn d at ∙ ap (λ (s : Result (Option Group) Refusal). on_step s (λ g. read_on d (end_of g))) e
 
-  pub read_fault : (r : Refusal) → step_at d at ≡ step.Fault r → read_on d at ≡ bad r
-  read_fault r e = read_turn d at ∙ ap (λ (s : Step). on_step s (λ g. read_on d (end_of g))) e
+  pub read_fault : (r : Refusal) → step_at d at ≡ Err r → read_on d at ≡ bad r
+  read_fault r e = read_turn d at ∙ ap (λ (s : Result (Option Group) Refusal). on_step s (λ g. read_on d (end_of g))) e
 
   -- a group met changes nothing of the judgement
-  pub judged_on : (g : Group) → step_at d at ≡ step.At g → judgement_of (read_on d at) ≡ judgement_of (read_on d (end_of g))
+  pub judged_on : (g : Group) → step_at d at ≡ Ok (Some g) → judgement_of (read_on d at) ≡ judgement_of (read_on d (end_of g))
   judged_on g e = ap judgement_of (read_group g e) ∙ judged_after g (read_on d (end_of g))
 
 -- ---- a reader's step
 
 module _ (d : List ℕ) (at : ℕ) where
-  given_by : (s : Step) → step_at d at ≡ s → (g : Group) (to : Cursor) → on_next s ≡ next.Given g to → (step_at d at ≡ step.At g) × (to.at ≡ end_of g)
-  given_by (step.At g) e h to q = (e ∙ cc, cc)
-  given_by step.End e h to q = absurd (let z : ◌≡◌ {A = ℕ} 0 1 = cc in omega arith)
-  given_by (step.Fault r) e h to q = absurd (let z : ◌≡◌ {A = ℕ} 0 1 = cc in omega arith)
+  given_by : (s : Result (Option Group) Refusal) → step_at d at ≡ s → (g : Group) (to : Cursor) → on_next s ≡ Some (g, to) → (step_at d at ≡ Ok (Some g)) × (to.at ≡ end_of g)
+  given_by (Ok (Some g)) e h to q =
+      let p : (g, record { at = end_of g }) ≡ (h, to) = cc in
+      let same : g ≡ h = ap (λ (x : Group × Cursor). x.0) p in
+      (e ∙ ap (λ (x : Group). Ok (Some x)) same, sym (ap (λ (x : Group × Cursor). x.1.at) p) ∙ ap end_of same)
+  given_by (Ok None) e h to q = absurd (let z : ◌≡◌ {A = ℕ} 0 1 = cc in omega arith)
+  given_by (Err r) e h to q = absurd (let z : ◌≡◌ {A = ℕ} 0 1 = cc in omega arith)
 
   -- what a caller's loop goes by: each group brings the reader on, and not past the frame's end
-  pub next_room : (g : Group) (to : Cursor) → next_at d at ≡ next.Given g to → (at + 4 ≤ to.at) × (to.at ≤ length d) × (to.at ≡ end_of g)
+  pub next_room : (g : Group) (to : Cursor) → next_at d at ≡ Some (g, to) → (at + 4 ≤ to.at) × (to.at ≤ length d) × (to.at ≡ end_of g)
   next_room g to q =
       let (e, t) = given_by (step_at d at) refl g to q in
       let (a, b) = step_room d at g e in
       (omega arith, omega arith, t)
 
   -- nothing is given out past the frame's end
-  pub past_none : length d ≤ at → next_at d at ≡ next.End
+  pub past_none : length d ≤ at → next_at d at ≡ None
   past_none h = ap on_next (sym (then (leb (length d) at) _ _ _ (le-leb (length d) at h) refl))

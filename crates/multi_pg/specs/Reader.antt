@@ -1,13 +1,11 @@
 -- What a reader gives out, from its first place to its end: the groups of the frame, in order, each with its bytes.
 use Prim.Native.Nat.{ℕ, zero, suc, ◌+◌, ◌-◌, ◌≤◌, ◌<◌}
 use Rattle.std.proofs.Common.{arith, sym, ap, subst, ◌∙◌, length-drop, length-take-le}
-use Rattle.std.specs.Prelude.{◌≡◌, List, [], ◌∷◌, length, get_or, drop}
+use Rattle.std.specs.Prelude.{◌≡◌, List, [], ◌∷◌, length, get_or, drop, Option, Some, None, Result, Ok, Err}
 use Rattle.std.proofs.Math.Path.{refl}
+use Rattle.frame.specs.declared.refusal.Refusal.{Refusal}
 use Rattle.multi_pg.specs.declared.Group.{Group}
 use Rattle.multi_pg.specs.declared.Cursor.{Cursor}
-use Rattle.multi_pg.specs.declared.Step.{Step}
-use Rattle.multi_pg.specs.declared.Step.TheVariants as step
-use Rattle.multi_pg.specs.declared.Next.TheVariants as next
 use Rattle.multi_pg.specs.Groups.{group_at, trailer_start, end_of, step_at, GroupsRead, good, bad, after, on_step, read_from, groups_read, judgement_of, groups_in, groups_of, start_at, start_of, on_next, next_at, content_of}
 use Rattle.multi_pg.specs.Places.{Here, here_end, here_step, step_here, step_room, read_on, read_all, read_group, read_end, past_none}
 
@@ -15,12 +13,12 @@ use Rattle.multi_pg.specs.Places.{Here, here_end, here_step, step_here, step_roo
 
 -- the groups given out one after another from a place, until the reader says that it is at its end
 pub data Yields (d : List ℕ) : ℕ → List Group → Type 0 where
-  done : {at : ℕ} → next_at d at ≡ next.End → Yields d at []
-  more : {at : ℕ} {g : Group} {to : Cursor} {gs : List Group} → next_at d at ≡ next.Given g to → Yields d to.at gs → Yields d at (g ∷ gs)
+  done : {at : ℕ} → next_at d at ≡ None → Yields d at []
+  more : {at : ℕ} {g : Group} {to : Cursor} {gs : List Group} → next_at d at ≡ Some (g, to) → Yields d to.at gs → Yields d at (g ∷ gs)
 
 -- whole groups back to back from a place on, up to the frame's end or its padding
 pub data Chain (d : List ℕ) : ℕ → List Group → Type 0 where
-  last : {at : ℕ} → step_at d at ≡ step.End → Chain d at []
+  last : {at : ℕ} → step_at d at ≡ Ok None → Chain d at []
   link : {at n : ℕ} {gs : List Group} → Here d at n → Chain d (end_of (group_at d at n)) gs → Chain d at (group_at d at n ∷ gs)
 
 -- a group is the one whose header comes before its data, and it lies in the frame with its trailer
@@ -37,16 +35,16 @@ after_good g (bad r) gs e = absurd (let z : ◌≡◌ {A = ℕ} 0 1 = cc in omeg
 
 module _ (d : List ℕ) where
   -- a place of a chain, if what follows it is one
-  chain_step : (at : ℕ) (gs : List Group) (s : Step) (f : Group → GroupsRead) → step_at d at ≡ s → on_step s f ≡ good gs
-      → ((g : Group) (hs : List Group) → step_at d at ≡ step.At g → f g ≡ good hs → Chain d (end_of g) hs) → Chain d at gs
-  chain_step at gs (step.At g) f q e rest =
+  chain_step : (at : ℕ) (gs : List Group) (s : Result (Option Group) Refusal) (f : Group → GroupsRead) → step_at d at ≡ s → on_step s f ≡ good gs
+      → ((g : Group) (hs : List Group) → step_at d at ≡ Ok (Some g) → f g ≡ good hs → Chain d (end_of g) hs) → Chain d at gs
+  chain_step at gs (Ok (Some g)) f q e rest =
       let (hs, r, p) = after_good g (f g) gs e in
       let m = step_here d at g q in
       let c : Chain d (end_of g) hs = rest g hs q r in
       subst (λ (l : List Group). Chain d at l) (ap (λ (x : Group). x ∷ hs) (sym m.same) ∙ p)
       (link m.here (subst (λ (x : Group). Chain d (end_of x) hs) m.same c))
-  chain_step at gs step.End f q e rest = subst (λ (l : List Group). Chain d at l) (cc) (last q)
-  chain_step at gs (step.Fault r) f q e rest = absurd (let z : ◌≡◌ {A = ℕ} 0 1 = cc in omega arith)
+  chain_step at gs (Ok None) f q e rest = subst (λ (l : List Group). Chain d at l) (cc) (last q)
+  chain_step at gs (Err r) f q e rest = absurd (let z : ◌≡◌ {A = ℕ} 0 1 = cc in omega arith)
 
   chain_by : (n at : ℕ) (gs : List Group) → read_from n d at ≡ good gs → length d - at < n → Chain d at gs
   unfolding read_from
@@ -86,8 +84,9 @@ module _ (d : List ℕ) where
   yields_one (done e) (more f y) = absurd (let z : ◌≡◌ {A = ℕ} 0 1 = cc in omega arith)
   yields_one (more e x) (done f) = absurd (let z : ◌≡◌ {A = ℕ} 0 1 = cc in omega arith)
   yields_one (more {g = g} {to = to} {gs = gs} e x) (more {g = g'} {to = to'} {gs = hs} f y) =
-      let same : g ≡ g' = cc in
-      let there : to' ≡ to = cc in
+      let given : ◌≡◌ {A = Group × Cursor} (g, to) (g', to') = cc in
+      let same : g ≡ g' = ap (λ (x : Group × Cursor). x.0) given in
+      let there : to' ≡ to = ap (λ (x : Group × Cursor). x.1) (sym given) in
       let tail : gs ≡ hs = yields_one x (subst (λ (c : Cursor). Yields d c.at hs) there y) in
       cc
 

@@ -7,10 +7,8 @@ pub mod read;
 ghost use Rattle.std.specs.Prelude.{◌≡◌, ◌<◌, ◌^◌};
 ghost use Rattle.multi_pg.specs.Groups.{end_of, start_of, next_at};
 
-use frame::refusal::Refusal;
-
 // A group in a frame: what its header says, where its data starts and how long it is, and how long its trailer is, which follows the data.
-#[derive(Clone, Copy)]
+#[derive(Clone, Copy, PartialEq, Eq, Debug)]
 pub struct Group {
     pub pgn: u32,
     pub service: u8,
@@ -20,39 +18,21 @@ pub struct Group {
     pub trailer: usize,
 }
 
-// What is at a place of a frame.
-#[derive(Clone, Copy)]
-pub enum Step {
-    At(Group),
-    End,
-    Fault(Refusal),
-}
-
-// A whole frame, judged before any group is given out.
-#[derive(Clone, Copy)]
-pub enum Judgement {
-    Good,
-    Refused(Refusal),
-}
-
-// The place that a reader has come to.
-#[derive(Clone, Copy)]
+// The place that a reader has come to, for a caller that holds no borrow of the frame (docs/PROMISES.md names it and its calls);
+// reader::Reader is it with its frame, as an iterator.
+#[derive(Clone, Copy, PartialEq, Eq, Debug)]
 pub struct Cursor {
     pub at: usize,
 }
 
-#[derive(Clone, Copy)]
-pub enum Next {
-    Given(Group, Cursor),
-    End,
-}
-
-// The place after a group.
-pub fn end_of(g: Group) -> usize
-    requires { end_of g < 2 ^ 64 }
-    ensures { result ≡ end_of g }
-{
-    g.start + g.len + g.trailer
+impl Group {
+    // The place after the group.
+    pub fn end(self) -> usize
+        requires { end_of self < 2 ^ 64 }
+        ensures { result ≡ end_of self }
+    {
+        self.start + self.len + self.trailer
+    }
 }
 
 impl Cursor {
@@ -61,22 +41,16 @@ impl Cursor {
         ensures { result.at ≡ start_of frame.now }
     {
         match read::judge(frame) {
-            Judgement::Good => Cursor { at: 0 },
-            Judgement::Refused(_) => Cursor { at: frame.len() },
+            Ok(()) => Cursor { at: 0 },
+            Err(_) => Cursor { at: frame.len() },
         }
     }
 
     // The group at the reader's place and the reader after it.
-    pub fn next(self, frame: &[u8]) -> Next
+    pub fn next(self, frame: &[u8]) -> Option<(Group, Cursor)>
         ensures { result ≡ next_at frame.now self.at }
     {
-        match read::step(frame, self.at) {
-            Step::At(g) => {
-                let end = end_of(g);
-                Next::Given(g, Cursor { at: end })
-            }
-            Step::End => Next::End,
-            Step::Fault(_) => Next::End,
-        }
+        let group = read::step(frame, self.at).ok()??;
+        Some((group, Cursor { at: group.end() }))
     }
 }

@@ -2,32 +2,26 @@
 ghost use Rattle.std.specs.Prelude.{◌≡◌};
 ghost use Rattle.multi_pg.specs.Groups.{step_at, judgement_of, groups_read};
 
-use super::header::{Service, headed_by, pgn_of, service_of};
-use super::{Judgement, Step, end_of};
+use super::Group;
+use super::header::{headed_by, pgn_of, service_of};
 use frame::refusal::Refusal;
 
-// What is at a place of a frame.
-pub fn step(frame: &[u8], at: usize) -> Step
+// The group at a place of a frame; none where the groups end.
+pub fn step(frame: &[u8], at: usize) -> Result<Option<Group>, Refusal>
     ensures { result ≡ step_at frame.now at }
 {
     if frame.len() <= at {
-        return Step::End;
+        return Ok(None);
     }
     let start = at + 4;
     let first = frame[at];
     match service_of(first) {
-        Service::Padding => Step::End,
-        Service::Refused(r) => if frame.len() < start {
-            Step::Fault(Refusal::HeaderCut)
-        } else {
-            Step::Fault(r)
-        },
-        Service::Group(trailer) => {
-            if frame.len() < start {
-                return Step::Fault(Refusal::HeaderCut);
-            }
+        Ok(None) => Ok(None),
+        _ if frame.len() < start => Err(Refusal::HeaderCut),
+        Err(refusal) => Err(refusal),
+        Ok(Some(trailer)) => {
             let pgn = pgn_of(first, frame[at + 1], frame[at + 2]);
-            let payload = frame[at + 3] as usize;
+            let payload = usize::from(frame[at + 3]);
             headed_by(
                 first,
                 pgn,
@@ -40,22 +34,13 @@ pub fn step(frame: &[u8], at: usize) -> Step
     }
 }
 
-// The judgement on a whole frame: the first fault met refuses it.
-pub fn judge(frame: &[u8]) -> Judgement
+// The judgement on a whole frame, before any group is given out: the first fault met refuses it.
+pub fn judge(frame: &[u8]) -> Result<(), Refusal>
     ensures { result ≡ judgement_of (groups_read frame.now) }
 {
     let mut at: usize = 0;
-    loop {
-        match step(frame, at) {
-            Step::At(g) => {
-                at = end_of(g);
-            }
-            Step::End => {
-                return Judgement::Good;
-            }
-            Step::Fault(r) => {
-                return Judgement::Refused(r);
-            }
-        }
+    while let Some(group) = step(frame, at)? {
+        at = group.end();
     }
+    Ok(())
 }

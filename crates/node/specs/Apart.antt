@@ -4,7 +4,7 @@ use Rattle.std.proofs.Math.Path.{refl, ap}
 use Rattle.std.proofs.Common.{sym, ◌∙◌}
 use Rattle.std.proofs.Math.Bool.{true, false}
 use Rattle.std.proofs.lemmas.Bool.{false≢true}
-use Rattle.laws.specs.Choice.{then, else}
+use Rattle.laws.specs.Choice.{else}
 use Rattle.frame.specs.declared.refusal.Refusal.TheVariants.{OutOfBounds}
 use Rattle.answer.specs.declared.Answer.TheVariants as answer
 use Rattle.lent_record.specs.Ready as receiver

@@ -3,7 +3,6 @@ use Rattle.std.specs.Prelude.{ℕ, Bool, cond, not, ◌&&◌, ◌||◌, List, eq
 use Rattle.frame.specs.Identifiers.{identifier_of}
 use Rattle.frame.specs.declared.refusal.Refusal.TheVariants.{OutOfBounds}
 use Rattle.transport.specs.Control.{is_response}
-use Rattle.answer.specs.declared.Answer.{Answer}
 use Rattle.answer.specs.declared.Answer.TheVariants as answer
 use Rattle.lent_record.specs.Ready as receiver
 use Rattle.engine.specs.InBytes.{InBytes, frame_in}

@@ -20,24 +20,17 @@ pub enum NodeAnswer {
 pub fn is_responders(id: u32, bytes: &[u8]) -> bool
     ensures { result ≡ is_responders id bytes.now }
 {
-    if bytes.len() != 12 {
-        return false;
-    }
-    (identifier::read(id).pf == 77) & is_response(bytes)
+    bytes.as_array::<12>().is_some_and(|frame| (identifier::read(id).pf == 77) & is_response(frame))
 }
 
 // Whether a frame becomes the sender's call: one for it, or one that its record must refuse, where the receiver's record and store are in
 // bounds. A receiver's frame asks nothing of the receiver here: its own call does.
+#[tactic(auto, unfolding(crate::specs::Node::is_senders))]
 pub fn is_senders(receiver: &[u8], store: usize, sender: &[u8], id: u32, bytes: &[u8]) -> bool
     ensures { result ≡ is_senders receiver.now store sender.now id bytes.now }
 {
-    if !sender::ready::is_ready(sender) {
-        return lent_record::ready::is_ready(receiver, store);
-    }
-    if !is_responders(id, bytes) {
-        return false;
-    }
-    lent_record::ready::is_ready(receiver, store)
+    (!sender::ready::is_ready(sender) || is_responders(id, bytes))
+        && lent_record::ready::is_ready(receiver, store)
 }
 
 // Takes one frame: the call of the end that it is for, with its 23.

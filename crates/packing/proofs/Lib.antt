@@ -1,5 +1,3 @@
-pub mod Checks
-pub mod Sums
 pub mod Fits
 pub mod Outcomes
 pub mod Turns

@@ -1,6 +1,6 @@
 -- What was packed is what is read: for every request that the packer accepts, the frame that it wrote says the request's groups, all
 -- five parts of each, in order; and no allowed length that holds them is shorter. A refused request leaves the output as it was.
-use Rattle.std.specs.Prelude.{ℕ, zero, suc, ◌+◌, ◌-◌, ◌*◌, ◌/◌, ◌%◌, ◌≤◌, ◌<◌, Bool, cond, List, [], ◌∷◌, ◌++◌, leb, ltb, length, get_or, take, drop}
+use Rattle.std.specs.Prelude.{ℕ, zero, suc, ◌+◌, ◌-◌, ◌*◌, ◌/◌, ◌%◌, ◌≤◌, ◌<◌, Bool, cond, Some, Result, Ok, Err, List, [], ◌∷◌, ◌++◌, leb, ltb, length, get_or, take, drop, None, Option}
 use Rattle.std.proofs.Common.{arith, add-zero, sym, ap, ◌∙◌, append_assoc, length-append, get_or-append-add, drop-drop, length-take-le, take_at, drop_at, ltb-true}
 use Rattle.std.proofs.Math.Path.{◌≡◌, refl, subst}
 use Rattle.std.proofs.Math.Bool.{true, false}
@@ -12,17 +12,12 @@ use Rattle.frame.proofs.LengthLaws.{frame_least}
 use Rattle.frame.specs.Pgn.{pgn_ok, low_byte_ok}
 use Rattle.frame.specs.declared.refusal.Refusal.{Refusal}
 use Rattle.multi_pg.specs.declared.Group.{Group}
-use Rattle.multi_pg.specs.declared.Step.{Step}
-use Rattle.multi_pg.specs.declared.Step.TheVariants as step
-use Rattle.multi_pg.specs.declared.header.Service.TheVariants as service
 use Rattle.multi_pg.specs.Services.{service_of, has_trailer}
 use Rattle.multi_pg.specs.ServiceLaws.{group_known, has_trailer_lem}
 use Rattle.multi_pg.specs.Groups.{tos, tf, pgn_at, payload, group_at, end_of, headed_at, on_service, step_at, Content, content_of, contents}
 use Rattle.multi_pg.specs.Places.{Here, here_end}
 use Rattle.multi_pg.specs.Reader.{Chain, last, link, chain_good}
 use Rattle.multi_pg.specs.Table.{groups, shown_by, shown}
-use Rattle.packing.specs.declared.Packed.{Packed}
-use Rattle.packing.specs.declared.Packed.TheVariants.{Frame, Refused}
 use Rattle.packing.specs.Packing.{Request, asked_by, asked, header_of, group_bytes, body, padding, needed, services_ok, formats_ok, pgns_ok, trailers_ok, request_fits, frame_of, outcome, packed}
 use Rattle.packing.specs.Shapes.{Even, Met, request_met, by_groups, padding_at, length_frame}
 use Rattle.packing.specs.RoundTrip.{asked_whole, Good, AllGood, Carried}
@@ -34,7 +29,7 @@ asked_good =
     (λ s f p n m ss fs ps ns ms d t x y r a b.
     let due = each_of (has_trailer (service_of s f) m ∷ trailers_ok ss fs ms ∷ []) a in
     let form = each_of (pgn_ok p ∷ pgns_ok ps ∷ []) b in (
-      record { service = has_trailer_lem (service_of s f) m due.0 ∙ ap service.Group (sym (length-take-le m t y)); pgn = form.0 },
+      record { service = has_trailer_lem (service_of s f) m due.0 ∙ ap (λ (n : ℕ). Ok (Some n)) (sym (length-take-le m t y)); pgn = form.0 },
       r due.1.0 form.1.0,
     ))
 
@@ -142,7 +137,7 @@ module _ (c : Content) (pre X F : List ℕ) (at : ℕ) (eF : F ≡ pre ++ (group
       ∙ ap (λ (l : List ℕ). record { pgn = c.pgn; service = c.service; format = c.format; bytes = l; trailer = take m (drop (at + 4 + (payload F at - m)) F) }) data_at_lem
       ∙ ap (λ (l : List ℕ). record { pgn = c.pgn; service = c.service; format = c.format; bytes = c.bytes; trailer = l }) trailer_at
 
-told_end : (tail pre F : List ℕ) (at : ℕ) → F ≡ pre ++ tail → at ≡ length pre → get_or tail 0 0 ≡ 0 → step_at F at ≡ step.End
+told_end : (tail pre F : List ℕ) (at : ℕ) → F ≡ pre ++ tail → at ≡ length pre → get_or tail 0 0 ≡ 0 → step_at F at ≡ (Ok None)
 told_end tail pre F at eF ea z =
     either (leb (length F) at) (ap (λ (s : ℕ). on_service (service_of s (tf F at)) (ltb (length F - at) 4) (headed_at F at)) tos_none)
   where
@@ -156,7 +151,7 @@ told_end tail pre F at eF ea z =
     tos_none : tos F at ≡ 0
     tos_none = ap (λ (x : ℕ). x / 32) first_none
 
-    either : {x : Step} (t : Bool) → x ≡ step.End → cond t step.End x ≡ step.End
+    either : {x : (Result (Option Group) Refusal)} (t : Bool) → x ≡ (Ok None) → cond t (Ok None) x ≡ (Ok None)
     either true e = refl
     either false e = e
 
@@ -192,7 +187,7 @@ module _ (q : Request) (out : List ℕ) where
   carried p f e =
       let m : Met q (length out) = request_met q (length out) f in
       let l : LeastOf Lengths (needed q) (frame_length (needed q)) = frame_least (needed q) m.small in
-      let w : (packed q out).1 ≡ frame_of q ++ drop (frame_length (needed q)) out = ap (λ (x : Packed × List ℕ). x.1) e in
+      let w : (packed q out).1 ≡ frame_of q ++ drop (frame_length (needed q)) out = ap (λ (x : Result ℕ Refusal × List ℕ). x.1) e in
       let s : length (frame_of q) ≡ frame_length (needed q) = length_frame q (length out) m in
       let t : take (frame_length (needed q)) (packed q out).1 ≡ frame_of q =
       ap (take (frame_length (needed q))) w ∙ take_at (frame_of q) (drop (frame_length (needed q)) out) (frame_length (needed q)) s in
@@ -207,12 +202,12 @@ module _ (q : Request) (out : List ℕ) where
       }
 
   -- The round trip.
-  pub round_trip : (n : ℕ) → (packed q out).0 ≡ Frame n → Carried q out n
+  pub round_trip : (n : ℕ) → (packed q out).0 ≡ Ok n → Carried q out n
   unfolding packed
   round_trip n e = go (services_ok q.services) (formats_ok q.services q.formats) (pgns_ok q.pgns) (request_fits q (length out)) refl refl refl refl e
     where
       go : (a b c d : Bool) → services_ok q.services ≡ a → formats_ok q.services q.formats ≡ b → pgns_ok q.pgns ≡ c → request_fits q (length out) ≡ d
-          → (outcome q out a b c d).0 ≡ Frame n → Carried q out n
+          → (outcome q out a b c d).0 ≡ Ok n → Carried q out n
       go false b c d w x y z k = absurd (let z : ◌≡◌ {A = ℕ} 0 1 = cc in omega arith)
       go true false c d w x y z k = absurd (let z : ◌≡◌ {A = ℕ} 0 1 = cc in omega arith)
       go true true false d w x y z k = absurd (let z : ◌≡◌ {A = ℕ} 0 1 = cc in omega arith)
@@ -221,11 +216,11 @@ module _ (q : Request) (out : List ℕ) where
           let i : frame_length (needed q) ≡ n = cc in subst (Carried q out) i (carried y z (rw (w, x, y, z)))
 
   -- A refused request leaves every byte of the output as it was.
-  pub refused_unchanged : (r : Refusal) → (packed q out).0 ≡ Refused r → (packed q out).1 ≡ out
+  pub refused_unchanged : (r : Refusal) → (packed q out).0 ≡ Err r → (packed q out).1 ≡ out
   unfolding packed
   refused_unchanged r e = go (services_ok q.services) (formats_ok q.services q.formats) (pgns_ok q.pgns) (request_fits q (length out)) e
     where
-      go : (a b c d : Bool) → (outcome q out a b c d).0 ≡ Refused r → (outcome q out a b c d).1 ≡ out
+      go : (a b c d : Bool) → (outcome q out a b c d).0 ≡ Err r → (outcome q out a b c d).1 ≡ out
       go false b c d k = refl
       go true false c d k = refl
       go true true false d k = refl

@@ -1,5 +1,5 @@
 -- A turn of the loop that writes groups.
-use Prim.Native.Nat.{ℕ, ◌+◌, ◌-◌, ◌≤◌, ◌<◌}
+use Prim.Native.Nat.{ℕ, ◌+◌, ◌≤◌, ◌<◌}
 use native.Mathlib.Omega.{arith}
 use mathlib.Core.Path.{◌≡◌, refl, sym, ap, subst, ◌∙◌}
 use mathlib.Core.List.{List, [], ◌∷◌, ◌++◌, append_assoc, append-nil}
@@ -9,15 +9,12 @@ use Rattle.laws.specs.Turn.{turn, end}
 use Rattle.laws.specs.Pastes.{paste_next}
 use Rattle.multi_pg.specs.Groups.{Content}
 use Rattle.packing.specs.Packing.{Request, asked_by, asked, header_of, group_bytes, body, sum, needed_by, needed}
-use Rattle.packing.specs.Shapes.{Even}
+use Rattle.packing.specs.Shapes.{EvenOf}
 
 -- the groups of a request from place i on, where so many bytes of data and of trailers were taken
 abbrev pub rest_of : Request → ℕ → ℕ → ℕ → List Content
 rest_of q i from taken =
     asked_by (drop i q.services) (drop i q.formats) (drop i q.pgns) (drop i q.lengths) (drop i q.trailers) (drop from q.joined) (drop taken q.assured)
-
-abbrev pub EvenOf : Request → Type 0
-EvenOf q = Even q.services q.formats q.pgns q.lengths q.trailers q.joined q.assured
 
 -- after i groups: what is written is there, with what is still to be written it is the whole, and the rest of the output is as it was
 pub record Written (q : Request) (o₀ o : List ℕ) (i at from taken : ℕ) : Type 0 where
@@ -31,12 +28,6 @@ pub record Written (q : Request) (o₀ o : List ℕ) (i at from taken : ℕ) : T
   pub trailers_taken : taken + sum (drop i q.trailers) ≡ sum q.trailers
 
 module _ (q : Request) (o₀ o : List ℕ) (i at from taken : ℕ) (even : EvenOf q) (room : needed q ≤ length o₀) (w : Written q o₀ o i at from taken) where
-  pub same_long : length o ≡ length o₀
-  same_long =
-      let l : length w.front ≡ at = w.long in
-      let p : at + needed_by (drop i q.pgns) (drop i q.lengths) (drop i q.trailers) ≡ needed q = w.place in
-      ap length w.there ∙ length-append w.front (drop at o₀) ∙ simp length-drop (omega arith)
-
   module _ (low : i < length q.pgns) where
     low_lengths : i < length q.lengths
     low_lengths = omega (arith, even.lengths)
@@ -53,13 +44,10 @@ module _ (q : Request) (o₀ o : List ℕ) (i at from taken : ℕ) (even : EvenO
     count_turn : length (drop i q.pgns) ≡ 1 + length (drop (i + 1) q.pgns)
     count_turn = simp length-drop (omega arith)
 
-    pub group_room : at + 4 + get_or q.lengths i 0 + get_or q.trailers i 0 ≤ length o₀
-    group_room = omega (arith, sum_turn, trailers_turn, count_turn, w.place)
-
-    pub data_room : from + get_or q.lengths i 0 ≤ length q.joined
+    data_room : from + get_or q.lengths i 0 ≤ length q.joined
     data_room = omega (arith, sum_turn, w.data_taken, even.joined)
 
-    pub trailer_room : taken + get_or q.trailers i 0 ≤ length q.assured
+    trailer_room : taken + get_or q.trailers i 0 ≤ length q.assured
     trailer_room = omega (arith, trailers_turn, w.trailers_taken, even.assured)
 
     abbrev group : Content
@@ -118,7 +106,7 @@ module _ (q : Request) (o₀ o : List ℕ) (i at from taken : ℕ) (even : EvenO
     body_turn = ap body rest_turn ∙ ap (λ (l : List ℕ). l ++ behind) group_turn
 
     -- with what the three copies of a turn leave
-    pub written_turn : (o₁ o₂ o₃ : List ℕ) → o₁ ≡ paste o at H 4 → o₂ ≡ paste o₁ (at + 4) (drop from q.joined) (get_or q.lengths i 0)
+    written_turn : (o₁ o₂ o₃ : List ℕ) → o₁ ≡ paste o at H 4 → o₂ ≡ paste o₁ (at + 4) (drop from q.joined) (get_or q.lengths i 0)
         → o₃ ≡ paste o₂ (at + 4 + get_or q.lengths i 0) (drop taken q.assured) (get_or q.trailers i 0)
         → Written q o₀ o₃ (i + 1) (at + 4 + get_or q.lengths i 0 + get_or q.trailers i 0) (from + get_or q.lengths i 0) (taken + get_or q.trailers i 0)
     written_turn o₁ o₂ o₃ e₁ e₂ e₃ =
@@ -145,16 +133,17 @@ module _ (q : Request) (o₀ o : List ℕ) (i at from taken : ℕ) (even : EvenO
         }
 
     -- with what the calls of a turn say of their results
-    pub groups_turn : (o₁ o₂ o₃ head : List ℕ) (n m : ℕ) → n ≡ get_or q.lengths i 0 → m ≡ get_or q.trailers i 0 → head ≡ H
+    pub groups_turn : (o₁ o₂ o₃ head : List ℕ) (n m to : ℕ) → to ≡ at + 4 + n + m → n ≡ get_or q.lengths i 0 → m ≡ get_or q.trailers i 0 → head ≡ H
         → o₁ ≡ paste o at head 4 → o₂ ≡ paste o₁ (at + 4) (drop from q.joined) n → o₃ ≡ paste o₂ (at + 4 + n) (drop taken q.assured) m
-        → Written q o₀ o₃ (i + 1) (at + 4 + n + m) (from + n) (taken + m)
-    groups_turn o₁ o₂ o₃ head n m en em eh e₁ e₂ e₃ =
-        subst (λ (k : ℕ). Written q o₀ o₃ (i + 1) (at + 4 + k + m) (from + k) (taken + m)) (sym en)
+        → Written q o₀ o₃ (i + 1) to (from + n) (taken + m)
+    groups_turn o₁ o₂ o₃ head n m to et en em eh e₁ e₂ e₃ =
+        subst (λ (k : ℕ). Written q o₀ o₃ (i + 1) k (from + n) (taken + m)) (sym et)
+        (subst (λ (k : ℕ). Written q o₀ o₃ (i + 1) (at + 4 + k + m) (from + k) (taken + m)) (sym en)
         (subst (λ (k : ℕ). Written q o₀ o₃ (i + 1) (at + 4 + get_or q.lengths i 0 + k) (from + get_or q.lengths i 0) (taken + k)) (sym em)
         (written_turn o₁ o₂ o₃ (e₁ ∙ ap (λ (l : List ℕ). paste o at l 4) eh) (e₂ ∙ ap (paste o₁ (at + 4) (drop from q.joined)) en)
         (e₃
         ∙ ap (λ (k : ℕ). paste o₂ (at + 4 + k) (drop taken q.assured) m) en
-        ∙ ap (paste o₂ (at + 4 + get_or q.lengths i 0) (drop taken q.assured)) em)))
+        ∙ ap (paste o₂ (at + 4 + get_or q.lengths i 0) (drop taken q.assured)) em))))
 
   -- after the last group
   pub written_all : length q.pgns ≤ i → o ≡ body (asked q) ++ drop (needed q) o₀

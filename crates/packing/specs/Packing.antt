@@ -1,13 +1,13 @@
 -- The packer: 01, "Groups in one frame", its last paragraph, with trailers as E5 of 02 has them.
-use Rattle.std.specs.Prelude.{ℕ, ◌+◌, ◌-◌, ◌*◌, ◌/◌, ◌%◌, min, Bool, true, cond, not, ◌&&◌, List, [], ◌∷◌, ◌++◌, eqb, leb, ltb, length, take, drop, replicate}
+use Rattle.std.specs.Prelude.{ℕ, ◌+◌, ◌-◌, ◌*◌, ◌/◌, ◌%◌, min, Bool, true, cond, not, ◌&&◌, Option, Some, None, Result, Ok, Err, List, [], ◌∷◌, ◌++◌, eqb, leb, ltb, length, take, drop, replicate}
+use Rattle.std.specs.List.{zip, list_all}
 use Rattle.frame.specs.Pgn.{pgn_ok}
 use Rattle.frame.specs.Lengths.{frame_length}
 use Rattle.frame.specs.declared.refusal.Refusal.{Refusal}
 use Rattle.frame.specs.declared.refusal.Refusal.TheVariants.{ServiceType, TrailerFormat, PgnForm, PackRequest}
 use Rattle.multi_pg.specs.Services.{is_service, service_of, is_group, has_trailer}
 use Rattle.multi_pg.specs.Groups.{Content}
-use Rattle.packing.specs.declared.Packed.{Packed}
-use Rattle.packing.specs.declared.Packed.TheVariants.{Frame, Refused}
+use Rattle.packing.specs.declared.Request.{Request as Lent}
 use Rattle.packing.specs.declared.trailer.Sums.{Sums}
 
 -- ---- a request
@@ -22,6 +22,19 @@ pub record Request : Type 0 where
   pub trailers : List ℕ
   pub joined : List ℕ
   pub assured : List ℕ
+
+-- what the slices of a lent request hold
+abbrev pub request_of : Lent → Request
+request_of r =
+    record {
+      services = r.services.now;
+      formats = r.formats.now;
+      pgns = r.pgns.now;
+      lengths = r.lengths.now;
+      trailers = r.trailers.now;
+      joined = r.data.now;
+      assured = r.assured.now;
+    }
 
 -- a group for each place of the five lists, with its bytes taken off the front of the data and of the trailers
 unfoldable pub asked_by : List ℕ → List ℕ → List ℕ → List ℕ → List ℕ → List ℕ → List ℕ → List Content
@@ -73,23 +86,17 @@ needed q = needed_by q.pgns q.lengths q.trailers
 
 -- ---- the checks, each over all groups
 
-abbrev pub every : (ℕ → Bool) → List ℕ → Bool
-every test [] = true
-every test (x ∷ xs) = test x && every test xs
-
 -- 6 where one is not
 abbrev pub services_ok : List ℕ → Bool
-services_ok = every is_service
+services_ok = list_all is_service
 
 -- 7 where the reader would take no group of a pair, up to the shorter list
 abbrev pub formats_ok : List ℕ → List ℕ → Bool
-formats_ok [] fs = true
-formats_ok (s ∷ ss) [] = true
-formats_ok (s ∷ ss) (f ∷ fs) = is_group (service_of s f) && formats_ok ss fs
+formats_ok ss fs = list_all (λ (p : ℕ × ℕ). is_group (service_of p.0 p.1)) (zip ss fs)
 
 -- 8 where one is not
 abbrev pub pgns_ok : List ℕ → Bool
-pgns_ok = every pgn_ok
+pgns_ok = list_all pgn_ok
 
 -- 24 where not: each trailer as long as its format has it
 abbrev pub trailers_ok : List ℕ → List ℕ → List ℕ → Bool
@@ -123,26 +130,26 @@ frame_of q = body (asked q) ++ padding (frame_length (needed q) - needed q)
 
 -- the answer, and the output after the call, by the four checks in their order: past the frame's length as it was, and whole as it was
 -- where the request is refused
-abbrev pub outcome : Request → List ℕ → Bool → Bool → Bool → Bool → Packed × List ℕ
+abbrev pub outcome : Request → List ℕ → Bool → Bool → Bool → Bool → Result ℕ Refusal × List ℕ
 outcome q out service format form fit =
-    cond (not service) (Refused ServiceType, out)
-    (cond (not format) (Refused TrailerFormat, out)
-    (cond (not form) (Refused PgnForm, out)
-    (cond (not fit) (Refused PackRequest, out)
-    (Frame (frame_length (needed q)), frame_of q ++ drop (frame_length (needed q)) out))))
+    cond (not service) (Err ServiceType, out)
+    (cond (not format) (Err TrailerFormat, out)
+    (cond (not form) (Err PgnForm, out)
+    (cond (not fit) (Err PackRequest, out)
+    (Ok (frame_length (needed q)), frame_of q ++ drop (frame_length (needed q)) out))))
 
-unfoldable pub packed : Request → List ℕ → Packed × List ℕ
+unfoldable pub packed : Request → List ℕ → Result ℕ Refusal × List ℕ
 packed q out = outcome q out (services_ok q.services) (formats_ok q.services q.formats) (pgns_ok q.pgns) (request_fits q (length out))
 
 -- ---- what the code asks; nothing here is to be believed: proofs tie each to `packed`
 
--- what a request needs where it fits; else 65, which is more than any frame has
-abbrev pub fitted : Request → ℕ → ℕ
-fitted q out = cond (request_fits q out) (needed q) 65
+-- what a request needs where it fits
+abbrev pub fitted : Request → ℕ → Option ℕ
+fitted q out = cond (request_fits q out) (Some (needed q)) None
 
--- the sums of the lengths, where the trailers are as long as their formats have them; else 65 for both
-abbrev pub sums_of : List ℕ → List ℕ → List ℕ → List ℕ → Sums
-sums_of ss fs ns ms = cond (trailers_ok ss fs ms) (record { «data» = sum ns; tails = sum ms }) (record { «data» = 65; tails = 65 })
+-- the sums of the lengths, where the trailers are as long as their formats have them
+abbrev pub sums_of : List ℕ → List ℕ → List ℕ → List ℕ → Option Sums
+sums_of ss fs ns ms = cond (trailers_ok ss fs ms) (Some (record { «data» = sum ns; tails = sum ms })) None
 
 -- the first check that a request fails which does not fit
 abbrev pub first_fault : List ℕ → List ℕ → List ℕ → Refusal

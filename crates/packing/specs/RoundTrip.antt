@@ -1,13 +1,11 @@
 -- What was packed is what is read: for every request that the packer accepts, the frame that it wrote says the request's groups, all
 -- five parts of each, in order; and no allowed length that holds them is shorter. A refused request leaves the output as it was.
-use Rattle.std.specs.Prelude.{ℕ, ◌≤◌, List, [], ◌∷◌, ◌++◌, map, length, take, drop}
+use Rattle.std.specs.Prelude.{ℕ, ◌≤◌, Some, Ok, List, [], ◌∷◌, ◌++◌, map, length, take, drop}
 use Rattle.std.proofs.Common.{arith, ap, ◌∙◌, take-append-drop, length-take-le, take_all}
 use Rattle.std.proofs.Math.Path.{◌≡◌, refl}
 use Rattle.std.proofs.Math.Bool.{true}
 use Rattle.frame.specs.Lengths.{is_length}
 use Rattle.frame.specs.Pgn.{pgn_ok}
-use Rattle.multi_pg.specs.declared.Group.{Group}
-use Rattle.multi_pg.specs.declared.header.Service.TheVariants as service
 use Rattle.multi_pg.specs.Services.{service_of}
 use Rattle.multi_pg.specs.Groups.{Content}
 use Rattle.multi_pg.specs.Table.{groups, shown}
@@ -80,7 +78,7 @@ asked_whole =
 
 -- a group that a reader takes: its trailer is as long as its service type and trailer format have it
 pub record Good (c : Content) : Type 0 where
-  pub service : service_of c.service c.format ≡ service.Group (length c.trailer)
+  pub service : service_of c.service c.format ≡ Ok (Some (length c.trailer))
   pub pgn : pgn_ok c.pgn ≡ true
 
 abbrev pub AllGood : List Content → Type 0

@@ -22,9 +22,12 @@ pub record Even (ss fs ps ns ms d t : List ℕ) : Type 0 where
   pub joined : length d ≡ sum ns
   pub assured : length t ≡ sum ms
 
+abbrev pub EvenOf : Request → Type 0
+EvenOf q = Even q.services q.formats q.pgns q.lengths q.trailers q.joined q.assured
+
 pub record Met (q : Request) (out : ℕ) : Type 0 where
   pub small : needed q ≤ 64
-  pub even : Even q.services q.formats q.pgns q.lengths q.trailers q.joined q.assured
+  pub even : EvenOf q
   pub due : trailers_ok q.services q.formats q.trailers ≡ true
   pub output : out ≡ 64
 

@@ -1,4 +1,5 @@
 -- How long the lines of one record are, where the numbers of its answer have 32 bits: at most 20,000 bytes. The longest are a message's.
+use Rattle.std.specs.Prelude.{Err, None, Ok, Option, Result, Some, ⊤}
 use Prim.Native.Nat.{ℕ, ◌+◌, ◌*◌, ◌<◌, ◌≤◌, ◌-◌}
 use native.Mathlib.Omega.{arith}
 use mathlib.Core.Path.{◌≡◌, refl}
@@ -20,11 +21,6 @@ use Rattle.answer.specs.declared.Answer.{Answer}
 use Rattle.answer.specs.declared.Answer.TheVariants.{Groups, Opened, Taken, Grant, HandedOver, Aborted, Ended, RefusedRts, Refused}
 use Rattle.answer.specs.declared.Message.{Message}
 use Rattle.answer.specs.declared.Ending.{Ending}
-use Rattle.answer.specs.declared.End.{End}
-use Rattle.answer.specs.declared.End.TheVariants as end
-use Rattle.answer.specs.declared.SlotEnd.{SlotEnd}
-use Rattle.answer.specs.declared.Acceptance.{Acceptance}
-use Rattle.answer.specs.declared.Acceptance.TheVariants as acceptance
 use Rattle.session.specs.Fits.{Small, AnswerFits}
 use Rattle.record_bytes.specs.Kept.{Bytes}
 use Rattle.text.specs.Line.{numbers, line_of}
@@ -158,27 +154,27 @@ answer_short d (Refused n) bytes b l f k c m = omega (arith, refused_short n)
 
 -- ---- a reading: at most one line for each slot
 
-abbrev pub EndSmall : End → Type 0
-EndSmall end.Stays = Unit {0}
-EndSmall (end.Ended e) = KeySmall e.key
+abbrev pub EndSmall : Option Ending → Type 0
+EndSmall None = Unit {0}
+EndSmall (Some e) = KeySmall e.key
 
-abbrev pub EndsSmall : List SlotEnd → Type 0
+abbrev pub EndsSmall : List (Option Ending) → Type 0
 EndsSmall [] = Unit {0}
-EndsSmall (s ∷ ss) = EndSmall s.end × EndsSmall ss
+EndsSmall (s ∷ ss) = EndSmall s × EndsSmall ss
 
-end_short : (e : End) → EndSmall e → length (end_lines e) ≤ 76
-end_short end.Stays h = omega arith
-end_short (end.Ended e) h = ending_short e h
+end_short : (e : Option Ending) → EndSmall e → length (end_lines e) ≤ 76
+end_short None h = omega arith
+end_short (Some e) h = ending_short e h
 
-ends_long : (l : List SlotEnd) → EndsSmall l → length (ends_lines l) ≤ 76 * length l
+ends_long : (l : List (Option Ending)) → EndsSmall l → length (ends_lines l) ≤ 76 * length l
 unfolding ends_lines
 ends_long [] h = omega arith
 ends_long (s ∷ ss) (h, hs) =
-    let a : length (end_lines s.end) ≤ 76 = end_short s.end h in
+    let a : length (end_lines s) ≤ 76 = end_short s h in
     let b : length (ends_lines ss) ≤ 76 * length ss = ends_long ss hs in
-    let e : length (end_lines s.end ++ ends_lines ss) ≡ length (end_lines s.end) + length (ends_lines ss) = length-append (end_lines s.end) (ends_lines ss) in
+    let e : length (end_lines s ++ ends_lines ss) ≡ length (end_lines s) + length (ends_lines ss) = length-append (end_lines s) (ends_lines ss) in
     omega arith
 
-pub reading_short : (a : Acceptance) (l : List SlotEnd) → length l ≡ 8 → EndsSmall l → length (reading_lines a l) ≤ record_room
-reading_short acceptance.Accepted l e h = omega (arith, ends_long l h)
-reading_short (acceptance.Refused n) l e h = omega (arith, refused_short n)
+pub reading_short : (a : Result ⊤ Refusal) (l : List (Option Ending)) → length l ≡ 8 → EndsSmall l → length (reading_lines a l) ≤ record_room
+reading_short (Ok tt) l e h = omega (arith, ends_long l h)
+reading_short (Err n) l e h = omega (arith, refused_short n)

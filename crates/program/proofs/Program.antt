@@ -7,7 +7,6 @@ use mathlib.Core.List.{List, [], ◌++◌}
 use lib.Dec.{eqb}
 use lib.ListN.{length, get_or, take, drop, replicate, length-replicate}
 use Rattle.frame.specs.declared.refusal.Refusal.TheVariants.{OutOfBounds}
-use Rattle.answer.specs.declared.Acceptance.TheVariants as acceptance
 use Rattle.answer.specs.declared.Answer.{Answer}
 use Rattle.receiver.specs.declared.Receiver.{Receiver}
 use Rattle.receiver.specs.Bounds.{in_bounds, opened, opened_with}
@@ -20,15 +19,16 @@ use Rattle.lent_record.specs.Ready.{ready_in}
 use Rattle.engine.specs.declared.reading.ReadingAnswer.{ReadingAnswer}
 use Rattle.engine.specs.InBytes.{InBytes, frame_in}
 use Rattle.engine.specs.Elapsing.{elapsed_in, reading_in}
-use Rattle.trace.specs.declared.record.RecordRead.{RecordRead}
-use Rattle.trace.specs.declared.record.RecordRead.TheVariants as trace
+use Rattle.std.specs.Prelude.{Option, Some, None, Result, Ok, Err, ⊤}
+use Rattle.trace.specs.declared.Fault.{Fault}
+use Rattle.trace.specs.declared.Fault.TheVariants.{Cut}
+use Rattle.trace.specs.declared.record.Record.{Record}
+use Rattle.trace.specs.declared.record.Record.TheVariants as trace
 use Rattle.trace.specs.Records as records
 use Rattle.trace.specs.Records.{says, said, reading}
 use Rattle.trace.specs.NumberTrips as numbers
 use Rattle.trace.specs.RecordTrips.{record_stands}
 use Rattle.report.specs.Lines.{answer_lines, reading_lines}
-use Rattle.answer.specs.declared.Acceptance.{Acceptance}
-use Rattle.answer.specs.declared.SlotEnd.{SlotEnd}
 use Rattle.answer.specs.Places.{place_of, place_bytes}
 use Rattle.isolation.specs.World.{frame, clock, lent}
 use Rattle.isolation.specs.Observe.{record_after, store_after}
@@ -41,6 +41,8 @@ use Rattle.run.specs.Goes.{turn_in, lying}
 use Rattle.run.specs.Cuts.{joined, Fed, cuts_agree}
 use Rattle.program.specs.Opening.{opened_bytes, opening}
 use Rattle.program.proofs.Numbers.{bytes_take}
+use Rattle.answer.specs.declared.Ending.{Ending}
+use Rattle.frame.specs.declared.refusal.Refusal.{Refusal}
 
 -- ---- the bytes b hold the record r, which is in bounds beside a whole store
 
@@ -65,10 +67,10 @@ module _ (b : List ℕ) (is : is_record b ≡ true) where
       r = record_at b
 
       none : ReadingAnswer
-      none = record { answer = acceptance.Refused OutOfBounds; ends = replicate 8 stays }
+      none = record { answer = Err OutOfBounds; ends = replicate 8 stays }
 
       by : Bool → Elapsed
-      by u = cond u (reading_kept r t) (record { next = r; answer = acceptance.Refused OutOfBounds; ends = replicate 8 stays })
+      by u = cond u (reading_kept r t) (record { next = r; answer = Err OutOfBounds; ends = replicate 8 stays })
 
       go : (u : Bool) → RecordFits (by u).next → ReadsSame (cond u (elapsed_in b (by u)) (none, b)) (by u)
       go true f = record { answer = refl; next = put_holds b is (reading_kept r t).next f }
@@ -115,16 +117,16 @@ module _ (b : List ℕ) (r : Receiver) (m : List ℕ) (h : Same b r m) where
       subst (λ (x : Receiver). RecordFits (reading_step x t m).next) (sym h.holds.reads) (fine_fits _ _ f) in
       let g : ReadsSame (reading_in b t m) (reading_step r t m) =
       subst (λ (x : Receiver). ReadsSame (reading_in b t m) (reading_step x t m)) h.holds.reads (reading_same b h.holds.codes t m fits) in
-      both_took _ _ next (ap (λ (x : Acceptance × List SlotEnd). reading_lines x.0 x.1) g.answer) refl (record { holds = g.next; fine = f })
+      both_took _ _ next (ap (λ (x : Result ⊤ Refusal × List (Option Ending)). reading_lines x.0 x.1) g.answer) refl (record { holds = g.next; fine = f })
 
-  by_record : (d : List ℕ) (at : ℕ) → Bytes d → (q : RecordRead) → records.record_at d at ≡ q → SameTurn (turn_by in_bytes b m d q) (turn_by the_receiver r m d q)
-  by_record d at w (trace.Reading t next) e =
+  by_record : (d : List ℕ) (at : ℕ) → Bytes d → (q : Result (Option Record) Fault) → records.record_at d at ≡ q → SameTurn (turn_by in_bytes b m d q) (turn_by the_receiver r m d q)
+  by_record d at w (Ok (Some (trace.Reading t next))) e =
       reading_turn t next (record_stands d at w {x = reading t} {next = next} (ap (said d) e)).good
-  by_record d at w (trace.Frame id begin n next) e =
+  by_record d at w (Ok (Some (trace.Frame id begin n next))) e =
       frame_turn id (take n (drop begin d)) next (bytes_take n (drop begin d) (numbers.bytes_drop d begin w))
-  by_record d at w trace.End e = both_over
-  by_record d at w trace.More e = both_cut
-  by_record d at w (trace.Bad f) e = both_bad
+  by_record d at w (Ok None) e = both_over
+  by_record d at w (Err Cut) e = both_cut
+  by_record d at w (Err f) e = both_bad
 
   pub same_turn : (d : List ℕ) (at : ℕ) → Bytes d → SameTurn (turn_at in_bytes b m d at) (turn_at the_receiver r m d at)
   unfolding turn_at

@@ -10,8 +10,11 @@ use Rattle.answer.specs.Places.{place_of, place_bytes}
 use Rattle.receiver.specs.declared.Receiver.{Receiver}
 use Rattle.receiver.specs.Calls.{frame_all, reading_step}
 use Rattle.record_bytes.specs.Kept.{Bytes}
-use Rattle.trace.specs.declared.record.RecordRead.{RecordRead}
-use Rattle.trace.specs.declared.record.RecordRead.TheVariants as trace
+use Rattle.std.specs.Prelude.{Option, Some, None, Result, Ok, Err}
+use Rattle.trace.specs.declared.Fault.{Fault}
+use Rattle.trace.specs.declared.Fault.TheVariants.{Cut}
+use Rattle.trace.specs.declared.record.Record.{Record}
+use Rattle.trace.specs.declared.record.Record.TheVariants as trace
 use Rattle.trace.specs.NumberTrips as numbers
 use Rattle.trace.specs.Records as records
 use Rattle.carried.proofs.Fits.{frame_well}
@@ -57,14 +60,14 @@ module _ (r : Receiver) (m : List ℕ) (h : Fine r m) (c : Bytes m) where
     c,
   )
 
-  brief_by : (d : List ℕ) (at : ℕ) → Bytes d → (q : RecordRead) → Within d at q → Brief (turn_by the_receiver r m d q)
-  brief_by d at w (trace.Reading t next) g = reading_brief t next
-  brief_by d at w (trace.Frame id begin n next) (low, same, high, few) =
+  brief_by : (d : List ℕ) (at : ℕ) → Bytes d → (q : Result (Option Record) Fault) → Within d at q → Brief (turn_by the_receiver r m d q)
+  brief_by d at w (Ok (Some (trace.Reading t next))) g = reading_brief t next
+  brief_by d at w (Ok (Some (trace.Frame id begin n next))) (low, same, high, few) =
       let l : length (take n (drop begin d)) ≡ min n (length (drop begin d)) = length-take n (drop begin d) in
       frame_brief id (take n (drop begin d)) next (bytes_take n (drop begin d) (numbers.bytes_drop d begin w)) (omega arith)
-  brief_by d at w trace.End g = tt
-  brief_by d at w trace.More g = tt
-  brief_by d at w (trace.Bad f) g = tt
+  brief_by d at w (Ok None) g = tt
+  brief_by d at w (Err Cut) g = tt
+  brief_by d at w (Err f) g = tt
 
   brief_turn : (d : List ℕ) (at : ℕ) → Bytes d → Brief (turn_at the_receiver r m d at)
   unfolding turn_at

@@ -6,8 +6,7 @@ use super::grant::most;
 use super::wait::Wait;
 use super::{Announced, Progress};
 use frame::SegmentNumber;
-use frame::octet::wide;
-use segments::{Segments, first_missing, run};
+use segments::Segments;
 
 // How often missing segments may be asked for.
 pub const REQUESTS: u8 = 5;
@@ -16,14 +15,15 @@ pub const REQUESTS: u8 = 5;
 pub fn asked_count(taken: Segments, segments: u32, max: u8) -> u8
     ensures { result ≡ asked_count taken segments max }
 {
-    run(taken, first_missing(taken, segments), segments, most(max))
+    taken.run(taken.first_missing(segments), segments, most(max))
 }
 
 // The last of them.
+#[tactic(auto, using(crate::specs::Asked::asked_from, crate::specs::Asked::asked_to_lem))]
 fn last_asked(taken: Segments, segments: u32, max: u8) -> u32
     ensures { result ≡ last_asked taken segments max }
 {
-    first_missing(taken, segments) - 1 + wide(asked_count(taken, segments, max))
+    taken.first_missing(segments) - 1 + u32::from(asked_count(taken, segments, max))
 }
 
 // The progress after a request: one more is made, the mark is the last reading, and the first wait is on.
@@ -31,16 +31,11 @@ pub fn requested(p: Progress, a: Announced, last: u32) -> Progress
     requires { p.requests < 5 }
     ensures { result ≡ requested_by p a last }
 {
-    let next = p.next;
-    let taken = p.taken;
-    let granted = last_asked(taken, a.segments.0, a.max);
     Progress {
-        next: next,
-        taken: taken,
-        missing: p.missing,
         requests: p.requests + 1,
-        granted: SegmentNumber(granted),
+        granted: SegmentNumber(last_asked(p.taken, a.segments.0, a.max)),
         mark: last,
         wait: Wait::First,
+        ..p
     }
 }

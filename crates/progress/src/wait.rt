@@ -1,8 +1,8 @@
 // Which of two silences a session is in, and how long each may last (02, E4; J1939-22, 6.14).
 ghost use Rattle.std.specs.Prelude.{◌≡◌};
-ghost use Rattle.progress.specs.Waits.{wait_after, is_second, limit_in};
+ghost use Rattle.progress.specs.Waits.{wait_after, limit_in};
 
-#[derive(Clone, Copy)]
+#[derive(Clone, Copy, PartialEq, Eq)]
 pub enum Wait {
     // after a CTS, for the first segment that it grants
     First,
@@ -22,15 +22,6 @@ pub fn wait_after(cts: bool) -> Wait
     ensures { result ≡ wait_after cts }
 {
     if cts { Wait::First } else { Wait::Second }
-}
-
-pub fn is_second(wait: Wait) -> bool
-    ensures { result ≡ is_second wait }
-{
-    match wait {
-        Wait::First => false,
-        Wait::Second => true,
-    }
 }
 
 // The limit in force.

@@ -5,13 +5,12 @@
 ghost use Rattle.std.specs.Prelude.{◌≡◌};
 ghost use Rattle.receiver.specs.Bounds.{opened};
 
-use answer::Acceptance;
 use frame::Address;
 use frame::refusal::Refusal;
 use progress::grant;
 use progress::wait::IdleLimits;
-use session::State;
-use slots::{Slot, bounds};
+use session::Session;
+use slots::bounds;
 
 // The opening values, the last reading, and the slots.
 #[derive(Clone, Copy)]
@@ -19,13 +18,13 @@ pub struct Receiver {
     pub own: Address,
     pub limits: IdleLimits,
     pub last: u32,
-    pub slots: [Slot; 8],
+    pub slots: [Option<Session>; 8],
 }
 
 #[derive(Clone, Copy)]
 pub struct Opened {
     pub receiver: Receiver,
-    pub answer: Acceptance,
+    pub answer: Result<(), Refusal>,
 }
 
 impl Receiver {
@@ -34,7 +33,7 @@ impl Receiver {
     pub const SLOT_BYTES: usize = slots::SLOT_BYTES;
 
     // the most segments that one CTS grants
-    pub const GRANT: u32 = grant::GRANT;
+    pub const GRANT: u32 = grant::GRANT as u32;
 
     // A receiver with no slot open; refused with 23 unless own is 0 to 253 and each limit 1 to 60,000.
     pub fn open(own: Address, limits: IdleLimits, reading: u32) -> Opened
@@ -44,19 +43,17 @@ impl Receiver {
             own: own,
             limits: limits,
             last: reading,
-            slots: [Slot {
-                state: State::Closed,
-            }; 8],
+            slots: [None; 8],
         };
         if bounds::values_ok(own, limits) {
             return Opened {
                 receiver: receiver,
-                answer: Acceptance::Accepted,
+                answer: Ok(()),
             };
         }
         Opened {
             receiver: receiver,
-            answer: Acceptance::Refused(Refusal::OutOfBounds),
+            answer: Err(Refusal::OutOfBounds),
         }
     }
 }

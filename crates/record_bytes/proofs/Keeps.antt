@@ -1,4 +1,5 @@
 -- A turn of the loop that puts the slots over the pieces before them.
+use Rattle.std.specs.Prelude.{Option}
 use Prim.Native.Nat.{ℕ, suc, ◌+◌, ◌<◌}
 use native.Mathlib.Omega.{arith}
 use native.Mathlib.Numerals.{add-one}
@@ -8,14 +9,14 @@ use mathlib.Core.List.{List, [], ◌∷◌, ◌++◌, append_assoc, append-nil}
 use lib.Dec.{eqb}
 use lib.ListN.{length, get_or, take, drop, length-drop, drop_of_length-le}
 use lib.Seq.{paste, take-paste, drop-paste, length-paste, take_all, drop-cons, drop-drop, length-take-le}
-use Rattle.slots.specs.declared.Slot.{Slot}
 use Rattle.slots.specs.Slots.{is_free}
 use Rattle.record_bytes.specs.Places.{record_length, head_length, slot_length, state_place, slot_place}
 use Rattle.record_bytes.specs.Layout.{slot_bytes, pieces, pieces_of}
 use Rattle.record_bytes.specs.Pieces.{length_slot, length_pieces, piece_of}
 use Rattle.record_bytes.specs.Keeping.{kept, merged}
+use Rattle.session.specs.declared.Session.{Session}
 
-module _ (o : List ℕ) (i : ℕ) (s : Slot) (long : length o ≡ record_length) (low : i < 8) where
+module _ (o : List ℕ) (i : ℕ) (s : Option Session) (long : length o ≡ record_length) (low : i < 8) where
   abbrev at : ℕ
   at = slot_place i
 
@@ -32,7 +33,7 @@ module _ (o : List ℕ) (i : ℕ) (s : Slot) (long : length o ≡ record_length)
       by true = piece_long
       by false = length_slot s
 
-module _ (ss : List Slot) (o₀ o o' : List ℕ) (i : ℕ) (d : Slot) (eight : length ss ≡ 8) (long : length o ≡ record_length) (low : i < 8)
+module _ (ss : List (Option Session)) (o₀ o o' : List ℕ) (i : ℕ) (d : Option Session) (eight : length ss ≡ 8) (long : length o ≡ record_length) (low : i < 8)
     (e : o' ≡ paste o (slot_place i) (kept (get_or (pieces_of o) i []) (get_or ss i d)) slot_length) where
   size : length (kept (get_or (pieces_of o) i []) (get_or ss i d)) ≡ slot_length
   size = kept_long o i (get_or ss i d) long low
@@ -63,7 +64,7 @@ module _ (ss : List Slot) (o₀ o o' : List ℕ) (i : ℕ) (d : Slot) (eight : l
         let at : ℕ = slot_place i in
         let ps : List (List ℕ) = pieces_of o₀ in
         let R : List ℕ = merged (drop (i + 1) ps) (drop (i + 1) ss) in
-        let s : Slot = get_or ss i d in
+        let s : Option Session = get_or ss i d in
         let w : slot_place (i + 1) ≡ at + slot_length = omega arith in
         let both : merged (drop i ps) (drop i ss) ≡ kept (get_or ps i []) s ++ R =
         ap (λ (l : List (List ℕ)). merged l (drop i ss)) (drop-cons ps i [] (omega (arith, length_pieces 8 (drop head_length o₀))))
@@ -78,7 +79,7 @@ module _ (ss : List Slot) (o₀ o o' : List ℕ) (i : ℕ) (d : Slot) (eight : l
         ∙ inv
 
 -- after the last slot
-pub keeps_all : (ss : List Slot) (o o₀ w : List ℕ) (i : ℕ) → length ss ≡ 8 → length o ≡ record_length → i ≡ 8
+pub keeps_all : (ss : List (Option Session)) (o o₀ w : List ℕ) (i : ℕ) → length ss ≡ 8 → length o ≡ record_length → i ≡ 8
     → take (slot_place i) o ++ merged (drop i (pieces_of o₀)) (drop i ss) ≡ w → o ≡ w
 unfolding merged
 keeps_all ss o o₀ w i eight long e inv =

@@ -1,7 +1,7 @@
 -- What is put back unchanged stays byte for byte, and one slot changed is one piece changed.
 use Prim.Native.Nat.{ℕ, zero, suc, ◌+◌, ◌*◌, ◌/◌, ◌%◌, ◌<◌, ◌≤◌}
 use native.Mathlib.Omega.{arith}
-use Rattle.std.specs.Prelude.{◌≡◌, Bool, true, false, cond, ◌&&◌, ◌||◌, eqb, get_or, set}
+use Rattle.std.specs.Prelude.{◌≡◌, Bool, true, false, cond, ◌&&◌, ◌||◌, eqb, get_or, set, None, Option, Some}
 use Rattle.std.proofs.Math.Path.{refl, sym, ap}
 use Rattle.std.proofs.Common.{◌∙◌, length-drop, drop-cons, get_or-drop, take_all, drop_at, eqb-true}
 use Rattle.std.proofs.lemmas.Bool.{false≢true}
@@ -16,9 +16,6 @@ use Rattle.transport.specs.declared.Kind.TheVariants.{Rts, Bam}
 use Rattle.progress.specs.declared.wait.Wait.TheVariants.{First, Second}
 use Rattle.progress.specs.declared.Progress.{Progress}
 use Rattle.session.specs.declared.Session.{Session}
-use Rattle.slots.specs.declared.Slot.{Slot}
-use Rattle.session.specs.declared.State.{State}
-use Rattle.session.specs.declared.State.TheVariants.{Closed, Open}
 use Rattle.slots.specs.Slots.{free_slot, is_free}
 use Rattle.receiver.specs.Calls.{with_slot}
 use Rattle.record_bytes.specs.Places.{head_length, slot_length, announced_length, progress_length, slot_place, progress_place}
@@ -146,8 +143,8 @@ codes_free x k w false q e h =
 
 module _ (p : List ℕ) (g : Good p) where
   -- the slot by its state code
-  abbrev slot_by : Bool → Slot
-  slot_by t = record { state = cond t (Open (session_at p)) Closed }
+  abbrev slot_by : Bool → Option Session
+  slot_by t = cond t (Some (session_at p)) None
 
   kept_by : (t : Bool) → eqb (get_or p state_place 0) 1 ≡ t → kept p (slot_by t) ≡ p
   kept_by true e =
@@ -163,7 +160,7 @@ module _ (p : List ℕ) (g : Good p) where
   pub kept_same : kept p (slot_at p) ≡ p
   kept_same = kept_by (eqb (get_or p state_place 0) 1) refl
 
-  kept_long : (s : Slot) → length (kept p s) ≡ slot_length
+  kept_long : (s : Option Session) → length (kept p s) ≡ slot_length
   kept_long s = by (is_free s && eqb (get_or p state_place 0) 0)
     where
       by : (t : Bool) → length (cond t p (slot_bytes s)) ≡ slot_length
@@ -205,7 +202,7 @@ merged_same (p ∷ ps) (g, gs) =
     ∙ ap (λ (l : List ℕ). p ++ l) (merged_same ps gs)
 
 -- one slot changed is one piece changed
-merged_set : (ps : List (List ℕ)) (i : ℕ) (s : Slot) → AllGood ps → i < length ps
+merged_set : (ps : List (List ℕ)) (i : ℕ) (s : Option Session) → AllGood ps → i < length ps
     → merged ps (set (map slot_at ps) i s) ≡ paste (joined ps) (slot_length * i) (kept (get_or ps i []) s) slot_length
 unfolding merged
 merged_set [] i s g h = absurd (omega arith)
@@ -243,19 +240,19 @@ module _ (b : List ℕ) (h : Bytes b) (r : is_record b ≡ true) where
       ∙ take-append-drop head_length b
 
   -- another state of one slot changes its piece and no other byte
-  pub put_one : (i : ℕ) (st : State) → i < 8
-      → put_in b (with_slot (record_at b) i st) ≡ paste b (slot_place i) (kept (get_or (pieces_of b) i []) (record { state = st })) slot_length
+  pub put_one : (i : ℕ) (st : Option Session) → i < 8
+      → put_in b (with_slot (record_at b) i st) ≡ paste b (slot_place i) (kept (get_or (pieces_of b) i []) st) slot_length
   unfolding put_in head_bytes
   put_one i st low =
-      let q : List ℕ = kept (get_or (pieces_of b) i []) (record { state = st }) in
-      ap (λ (l : List ℕ). l ++ merged (pieces_of b) (set (slots_at b) i (record { state = st }))) head_same
-      ∙ ap (λ (l : List ℕ). take head_length b ++ l) (merged_set (pieces_of b) i (record { state = st }) good_record (omega (arith, length_pieces 8 (drop head_length b))))
+      let q : List ℕ = kept (get_or (pieces_of b) i []) st in
+      ap (λ (l : List ℕ). l ++ merged (pieces_of b) (set (slots_at b) i st)) head_same
+      ∙ ap (λ (l : List ℕ). take head_length b ++ l) (merged_set (pieces_of b) i st good_record (omega (arith, length_pieces 8 (drop head_length b))))
       ∙ ap (λ (l : List ℕ). take head_length b ++ paste l (slot_length * i) q slot_length) all_joined
       ∙ sym (paste_behind (take head_length b) (drop head_length b) q head_length (slot_length * i) slot_length (length-take-le head_length b (omega (arith, record_long b r))))
       ∙ ap (λ (l : List ℕ). paste l (slot_place i) q slot_length) (take-append-drop head_length b)
 
   -- other slots over their pieces, and another last reading in its four bytes
-  pub put_elapsed : (last : ℕ) (ss : List Slot)
+  pub put_elapsed : (last : ℕ) (ss : List (Option Session))
       → paste (take head_length b ++ merged (pieces_of b) ss) last_place (low4 last []) 4
       ≡ put_in b (record { own = (record_at b).own; limits = (record_at b).limits; last = last; slots = ss })
   unfolding put_in head_bytes
@@ -283,18 +280,18 @@ good_piece b h r i low = good_at (pieces_of b) i (good_record b h r) (omega (ari
 -- ---- one session brought forward
 
 module _ (b : List ℕ) (h : Bytes b) (r : is_record b ≡ true) (i : ℕ) (low : i < 8) (s : Session)
-    (st : (get_or (slots_at b) i free_slot).state ≡ Open s) where
+    (st : (get_or (slots_at b) i free_slot) ≡ Some s) where
   -- an open slot's piece is the bytes of its session
   piece_open : get_or (pieces_of b) i [] ≡ session_bytes s
   piece_open =
       let p : List ℕ = get_or (pieces_of b) i [] in
       sym (kept_same p (good_piece b h r i low))
-      ∙ ap (λ (x : Slot). kept p x) (sym (get_or-map slot_at (pieces_of b) i []))
-      ∙ ap (λ (x : State). kept p (record { state = x })) st
+      ∙ ap (λ (x : Option Session). kept p x) (sym (get_or-map slot_at (pieces_of b) i []))
+      ∙ ap (λ (x : Option Session). kept p x) st
 
   -- what a segment changes of a session are its last bytes
   pub put_forward : (p : Progress)
-      → put_in b (with_slot (record_at b) i (Open (record { announced = s.announced; progress = p })))
+      → put_in b (with_slot (record_at b) i (Some (record { announced = s.announced; progress = p })))
       ≡ paste b (progress_place i) (progress_bytes p) progress_length
   unfolding session_bytes
   put_forward p =
@@ -303,6 +300,6 @@ module _ (b : List ℕ) (h : Bytes b) (r : is_record b ≡ true) (i : ℕ) (low 
       let w : slot_place i + announced_length ≡ progress_place i = omega arith in
       let e : take announced_length (drop (slot_place i) b) ≡ front =
       sym (take-take announced_length slot_length (drop (slot_place i) b) (omega arith)) ∙ ap (take announced_length) (sym (piece_of b i low) ∙ piece_open) in
-      put_one b h r i (Open t) low
+      put_one b h r i (Some t) low
       ∙ paste_rest b front (progress_bytes p) (slot_place i) announced_length progress_length e refl refl
       ∙ ap (λ (k : ℕ). paste b k (progress_bytes p) progress_length) w

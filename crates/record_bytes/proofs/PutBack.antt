@@ -1,5 +1,5 @@
 -- What a call puts into the buffer is a record, and the next call reads it as it was.
-use Rattle.std.specs.Prelude.{ℕ, zero, suc, ◌*◌, ◌≡◌, Bool, true, false, cond, ◌&&◌, List, [], ◌∷◌, ◌++◌, map, eqb, get_or, drop}
+use Rattle.std.specs.Prelude.{ℕ, zero, suc, ◌*◌, ◌≡◌, Bool, true, false, cond, ◌&&◌, List, [], ◌∷◌, ◌++◌, map, eqb, get_or, drop, None, Option, Some}
 use native.Mathlib.Omega.{arith}
 use Rattle.std.proofs.Math.Path.{refl, sym, ap}
 use Rattle.std.proofs.Common.{◌∙◌, length-drop, take_at, drop_at, length-take-le, eqb-true, eq-eqb}
@@ -7,11 +7,8 @@ use Rattle.std.proofs.Math.Bool.{not}
 use Rattle.std.proofs.lemmas.Bool.{false≢true}
 use Rattle.std.proofs.Math.ListN.{length, length-append}
 use Rattle.laws.specs.Choice.{else}
-use Rattle.slots.specs.declared.Slot.{Slot}
-use Rattle.session.specs.declared.State.{State}
-use Rattle.session.specs.declared.State.TheVariants.{Closed, Open}
 use Rattle.session.specs.Fits.{StateSmall}
-use Rattle.slots.specs.Slots.{free_state}
+use Rattle.slots.specs.Slots.{is_free}
 use Rattle.receiver.specs.declared.Receiver.{Receiver}
 use Rattle.record_bytes.specs.Places.{record_length, head_length, slot_length, state_place, kind_place, wait_place}
 use Rattle.record_bytes.specs.Layout.{session_at, state_bytes, slot_bytes, slot_at, codes_ok, codes_in, head_bytes, pieces, pieces_of, codes_all, is_record, record_at}
@@ -20,29 +17,30 @@ use Rattle.record_bytes.specs.Keeping.{kept, merged, put_in}
 use Rattle.record_bytes.specs.RoundTrip.{SlotsFit, RecordFits, codes_state}
 use Rattle.record_bytes.proofs.RoundTrip.{state_back, headed, head_back}
 use Rattle.words.specs.Laws.{four_bytes}
+use Rattle.session.specs.declared.Session.{Session}
 
 -- ---- a slot
 
-free_read : (p : List ℕ) (n : ℕ) → n ≡ 0 → ◌≡◌ {A = State} (cond (eqb n 1) (Open (session_at p)) Closed) Closed
-free_read p n e = ap (λ (k : ℕ). cond (eqb k 1) (Open (session_at p)) Closed) e
+free_read : (p : List ℕ) (n : ℕ) → n ≡ 0 → ◌≡◌ {A = (Option Session)} (cond (eqb n 1) (Some (session_at p)) None) None
+free_read p n e = ap (λ (k : ℕ). cond (eqb k 1) (Some (session_at p)) None) e
 
 -- t: the slot is free and its piece's state code is 0
-kept_by : (p : List ℕ) (st : State) (t : Bool) → t ≡ (free_state st && eqb (get_or p state_place 0) 0) → StateSmall st
-    → slot_at (cond t p (state_bytes st)) ≡ record { state = st }
+kept_by : (p : List ℕ) (st : Option Session) (t : Bool) → t ≡ (is_free st && eqb (get_or p state_place 0) 0) → StateSmall st
+    → slot_at (cond t p (state_bytes st)) ≡ st
 kept_by p st false e f = state_back st f
-kept_by p Closed true e f =
-    ap (λ (x : State). record { state = x }) (free_read p (get_or p state_place 0) (eqb-true _ _ (sym e)))
-kept_by p (Open s) true e f = absurd (false≢true (sym e))
+kept_by p None true e f =
+    (free_read p (get_or p state_place 0) (eqb-true _ _ (sym e)))
+kept_by p (Some s) true e f = absurd (false≢true (sym e))
 
-code_by : (p : List ℕ) (st : State) (t : Bool) → t ≡ (free_state st && eqb (get_or p state_place 0) 0)
+code_by : (p : List ℕ) (st : Option Session) (t : Bool) → t ≡ (is_free st && eqb (get_or p state_place 0) 0)
     → codes_in (cond t p (state_bytes st)) ≡ true
 code_by p st false e = codes_state st
-code_by p Closed true e =
+code_by p None true e =
     let z : get_or p state_place 0 ≡ 0 = eqb-true _ _ (sym e) in
     ap (λ (n : ℕ). codes_ok n (get_or p kind_place 0) (get_or p wait_place 0)) z
-code_by p (Open s) true e = absurd (false≢true (sym e))
+code_by p (Some s) true e = absurd (false≢true (sym e))
 
-long_by : (p : List ℕ) (s : Slot) (t : Bool) → length p ≡ slot_length → length (cond t p (slot_bytes s)) ≡ slot_length
+long_by : (p : List ℕ) (s : Option Session) (t : Bool) → length p ≡ slot_length → length (cond t p (slot_bytes s)) ≡ slot_length
 long_by p s true h = h
 long_by p s false h = length_slot s
 
@@ -58,12 +56,12 @@ all_long zero b e = tt
 all_long (suc n) b e =
     (length-take-le slot_length b (omega arith), all_long n (drop slot_length b) (length-drop slot_length b ∙ omega arith))
 
-abbrev kept_all : List (List ℕ) → List Slot → List (List ℕ)
+abbrev kept_all : List (List ℕ) → List (Option Session) → List (List ℕ)
 kept_all [] ss = []
 kept_all (p ∷ ps) [] = []
 kept_all (p ∷ ps) (s ∷ ss) = kept p s ∷ kept_all ps ss
 
-pieces_merged : (ps : List (List ℕ)) (ss : List Slot) → AllLong ps → length ps ≡ length ss → pieces (length ss) (merged ps ss) ≡ kept_all ps ss
+pieces_merged : (ps : List (List ℕ)) (ss : List (Option Session)) → AllLong ps → length ps ≡ length ss → pieces (length ss) (merged ps ss) ≡ kept_all ps ss
 unfolding pieces merged
 pieces_merged [] [] g e = refl
 pieces_merged [] (s ∷ ss) g e = absurd (omega arith)
@@ -71,34 +69,34 @@ pieces_merged (p ∷ ps) [] g e = absurd (omega arith)
 pieces_merged (p ∷ ps) (s ∷ ss) (g, gs) e =
     let n : ℕ = length ss in
     let b : List ℕ = kept p s ++ merged ps ss in
-    let l : length (kept p s) ≡ slot_length = long_by p s (free_state s.state && eqb (get_or p state_place 0) 0) g in
+    let l : length (kept p s) ≡ slot_length = long_by p s (is_free s && eqb (get_or p state_place 0) 0) g in
     ap (λ (x : List ℕ). x ∷ pieces n (drop slot_length b)) (take_at (kept p s) (merged ps ss) slot_length l)
     ∙ ap (λ (x : List ℕ). kept p s ∷ pieces n x) (drop_at (kept p s) (merged ps ss) slot_length l)
     ∙ ap (λ (x : List (List ℕ)). kept p s ∷ x) (pieces_merged ps ss gs (omega arith))
 
-slots_read : (ps : List (List ℕ)) (ss : List Slot) → length ps ≡ length ss → SlotsFit ss → map slot_at (kept_all ps ss) ≡ ss
+slots_read : (ps : List (List ℕ)) (ss : List (Option Session)) → length ps ≡ length ss → SlotsFit ss → map slot_at (kept_all ps ss) ≡ ss
 slots_read [] [] e f = refl
 slots_read [] (s ∷ ss) e f = absurd (omega arith)
 slots_read (p ∷ ps) [] e f = absurd (omega arith)
 slots_read (p ∷ ps) (s ∷ ss) e (f, fs) =
-    ap (λ (x : Slot). x ∷ map slot_at (kept_all ps ss)) (kept_by p s.state _ refl f)
-    ∙ ap (λ (x : List Slot). s ∷ x) (slots_read ps ss (omega arith) fs)
+    ap (λ (x : Option Session). x ∷ map slot_at (kept_all ps ss)) (kept_by p s _ refl f)
+    ∙ ap (λ (x : List (Option Session)). s ∷ x) (slots_read ps ss (omega arith) fs)
 
-codes_kept : (ps : List (List ℕ)) (ss : List Slot) → length ps ≡ length ss → codes_all (kept_all ps ss) ≡ true
+codes_kept : (ps : List (List ℕ)) (ss : List (Option Session)) → length ps ≡ length ss → codes_all (kept_all ps ss) ≡ true
 unfolding codes_all
 codes_kept [] [] e = refl
 codes_kept [] (s ∷ ss) e = absurd (omega arith)
 codes_kept (p ∷ ps) [] e = absurd (omega arith)
 codes_kept (p ∷ ps) (s ∷ ss) e =
-    ap (λ (t : Bool). cond (not t) false (codes_all (kept_all ps ss))) (code_by p s.state _ refl) ∙ codes_kept ps ss (omega arith)
+    ap (λ (t : Bool). cond (not t) false (codes_all (kept_all ps ss))) (code_by p s _ refl) ∙ codes_kept ps ss (omega arith)
 
-length_merged : (ps : List (List ℕ)) (ss : List Slot) → AllLong ps → length ps ≡ length ss → length (merged ps ss) ≡ slot_length * length ss
+length_merged : (ps : List (List ℕ)) (ss : List (Option Session)) → AllLong ps → length ps ≡ length ss → length (merged ps ss) ≡ slot_length * length ss
 unfolding merged
 length_merged [] [] g e = refl
 length_merged [] (s ∷ ss) g e = absurd (omega arith)
 length_merged (p ∷ ps) [] g e = absurd (omega arith)
 length_merged (p ∷ ps) (s ∷ ss) (g, gs) e =
-    let a : length (kept p s) ≡ slot_length = long_by p s (free_state s.state && eqb (get_or p state_place 0) 0) g in
+    let a : length (kept p s) ≡ slot_length = long_by p s (is_free s && eqb (get_or p state_place 0) 0) g in
     let b : length (merged ps ss) ≡ slot_length * length ss = length_merged ps ss gs (omega arith) in
     length-append (kept p s) (merged ps ss) ∙ omega arith
 

@@ -1,5 +1,5 @@
 -- A record that is written is read back as it was.
-use Rattle.std.specs.Prelude.{ℕ, ◌*◌, ◌≡◌, Bool, true, false, cond, List, [], ◌∷◌, map, eqb}
+use Rattle.std.specs.Prelude.{ℕ, ◌*◌, ◌≡◌, Bool, true, false, cond, List, [], ◌∷◌, map, eqb, None, Option, Some}
 use native.Mathlib.Omega.{arith}
 use Rattle.std.proofs.Math.Path.{refl, sym, ap}
 use Rattle.std.proofs.Common.{◌∙◌, eq-eqb}
@@ -13,9 +13,6 @@ use Rattle.progress.specs.declared.Progress.{Progress}
 use Rattle.progress.specs.declared.wait.Wait.{Wait}
 use Rattle.progress.specs.declared.wait.Wait.TheVariants.{First, Second}
 use Rattle.session.specs.declared.Session.{Session}
-use Rattle.slots.specs.declared.Slot.{Slot}
-use Rattle.session.specs.declared.State.{State}
-use Rattle.session.specs.declared.State.TheVariants.{Closed, Open}
 use Rattle.session.specs.Fits.{ProgressSmall, SessionSmall, StateSmall}
 use Rattle.receiver.specs.declared.Receiver.{Receiver}
 use Rattle.words.specs.Laws.{four_bytes, low32_read_back}
@@ -78,26 +75,26 @@ session_back s f =
     ap (λ (a : Announced). record { announced = a; progress = progress_at (session_bytes s) }) (announced_back s f)
     ∙ ap (λ (p : Progress). record { announced = s.announced; progress = p }) (progress_back s f.progress)
 
-pub state_back : (st : State) → StateSmall st → slot_at (state_bytes st) ≡ record { state = st }
+pub state_back : (st : Option Session) → StateSmall st → slot_at (state_bytes st) ≡ st
 unfolding session_bytes
-state_back Closed f = refl
-state_back (Open s) f = ap (λ (x : Session). record { state = Open x }) (session_back s f)
+state_back None f = refl
+state_back (Some s) f = ap (λ (x : Session). Some x) (session_back s f)
 
-slots_back : (ss : List Slot) → SlotsFit ss → map slot_at (map slot_bytes ss) ≡ ss
+slots_back : (ss : List (Option Session)) → SlotsFit ss → map slot_at (map slot_bytes ss) ≡ ss
 slots_back [] f = refl
 slots_back (s ∷ ss) (p, q) =
-    ap (λ (x : Slot). x ∷ map slot_at (map slot_bytes ss)) (state_back s.state p)
-    ∙ ap (λ (l : List Slot). s ∷ l) (slots_back ss q)
+    ap (λ (x : Option Session). x ∷ map slot_at (map slot_bytes ss)) (state_back s p)
+    ∙ ap (λ (l : List (Option Session)). s ∷ l) (slots_back ss q)
 
-codes_slots : (ss : List Slot) → codes_all (map slot_bytes ss) ≡ true
+codes_slots : (ss : List (Option Session)) → codes_all (map slot_bytes ss) ≡ true
 unfolding codes_all
 codes_slots [] = refl
 codes_slots (s ∷ ss) =
-    ap (λ (t : Bool). cond (not t) false (codes_all (map slot_bytes ss))) (codes_state s.state) ∙ codes_slots ss
+    ap (λ (t : Bool). cond (not t) false (codes_all (map slot_bytes ss))) (codes_state s) ∙ codes_slots ss
 
 module _ (r : Receiver) (f : RecordFits r) where
   -- a record of the same own address, with other numbers in its head
-  abbrev pub headed : ℕ → ℕ → ℕ → List Slot → Receiver
+  abbrev pub headed : ℕ → ℕ → ℕ → List (Option Session) → Receiver
   headed first second last ss =
       record { own = r.own; limits = record { first = first; second = second }; last = last; slots = ss }
 

@@ -1,4 +1,5 @@
 -- A turn of the loop that writes the slots.
+use Rattle.std.specs.Prelude.{Option}
 use Prim.Native.Nat.{ℕ, ◌+◌, ◌<◌}
 use native.Mathlib.Omega.{arith}
 use mathlib.Core.Path.{◌≡◌, refl, sym, ap, ◌∙◌}
@@ -6,7 +7,6 @@ use mathlib.Core.List.{List, ◌++◌, append_assoc, append-nil}
 use lib.ListN.{length, get_or, take, drop}
 use lib.Seq.{paste, take-paste, length-paste, take_all}
 use Rattle.laws.specs.Turn.{turn, end}
-use Rattle.slots.specs.declared.Slot.{Slot}
 use mathlib.Core.Bool.{true, not}
 use lib.Dec.{eqb}
 use borrow.Author.Tests.{eq-eqb}
@@ -15,8 +15,9 @@ use Rattle.receiver.specs.declared.Receiver.{Receiver}
 use Rattle.record_bytes.specs.Places.{record_length, head_length, slot_length, slot_place}
 use Rattle.record_bytes.specs.Layout.{slot_bytes, head_bytes, slots_bytes, written, stored_in}
 use Rattle.record_bytes.specs.Pieces.{length_slot}
+use Rattle.session.specs.declared.Session.{Session}
 
-module _ (ss : List Slot) (o₀ o o' : List ℕ) (i : ℕ) (d : Slot) (eight : length ss ≡ 8) (long : length o ≡ record_length) (low : i < 8)
+module _ (ss : List (Option Session)) (o₀ o o' : List ℕ) (i : ℕ) (d : Option Session) (eight : length ss ≡ 8) (long : length o ≡ record_length) (low : i < 8)
     (e : o' ≡ paste o (slot_place i) (slot_bytes (get_or ss i d)) slot_length) where
   abbrev p : List ℕ
   p = slot_bytes (get_or ss i d)
@@ -43,7 +44,7 @@ module _ (ss : List Slot) (o₀ o o' : List ℕ) (i : ℕ) (d : Slot) (eight : l
       ∙ inv
 
 -- after the last slot
-pub slots_all : (ss : List Slot) (o w : List ℕ) (i : ℕ) → length ss ≡ 8 → length o ≡ record_length → i ≡ 8
+pub slots_all : (ss : List (Option Session)) (o w : List ℕ) (i : ℕ) → length ss ≡ 8 → length o ≡ record_length → i ≡ 8
     → take (slot_place i) o ++ slots_bytes (drop i ss) ≡ w → o ≡ w
 unfolding slots_bytes
 slots_all ss o w i eight long e inv =

@@ -1,6 +1,6 @@
 -- The record as bytes of a fixed layout: own address, both idle limits and last reading, then eight slots (01, "Life of a session").
 -- Numbers of 32 bits, and of 64, have their low byte first.
-use Rattle.std.specs.Prelude.{ℕ, zero, suc, ◌+◌, ◌*◌, ◌/◌, ◌%◌, Bool, true, false, cond, not, ◌&&◌, ◌||◌, List, [], ◌∷◌, ◌++◌, map, eqb, length, get_or, take, drop, replicate}
+use Rattle.std.specs.Prelude.{ℕ, zero, suc, ◌+◌, ◌*◌, ◌/◌, ◌%◌, Bool, true, false, cond, not, ◌&&◌, ◌||◌, List, [], ◌∷◌, ◌++◌, map, eqb, length, get_or, take, drop, replicate, None, Option, Some}
 use Rattle.words.specs.Words.{low4, low32}
 use Rattle.record_bytes.specs.Longs.{low8, low64}
 use Rattle.transport.specs.declared.Kind.{Kind}
@@ -11,9 +11,6 @@ use Rattle.progress.specs.declared.wait.Wait.{Wait}
 use Rattle.progress.specs.declared.wait.Wait.TheVariants.{First, Second}
 use Rattle.progress.specs.declared.wait.IdleLimits.{IdleLimits}
 use Rattle.session.specs.declared.Session.{Session}
-use Rattle.slots.specs.declared.Slot.{Slot}
-use Rattle.session.specs.declared.State.{State}
-use Rattle.session.specs.declared.State.TheVariants.{Closed, Open}
 use Rattle.receiver.specs.declared.Receiver.{Receiver}
 use Rattle.record_bytes.specs.Places.{record_length, head_length, slot_length, own_place, first_limit_place, second_limit_place, last_place}
 use Rattle.record_bytes.specs.Places.{state_place, kind_place, sa_place, da_place, session_place, total_place, segments_place, max_place, pgn_place, next_place, granted_place, mark_place, wait_place, taken_place, taken_high_place, missing_place, requests_place}
@@ -88,12 +85,12 @@ abbrev pub session_at : List ℕ → Session
 session_at b = record { announced = announced_at b; progress = progress_at b }
 
 -- free: zeros
-abbrev pub state_bytes : State → List ℕ
-state_bytes Closed = replicate slot_length 0
-state_bytes (Open s) = session_bytes s
+abbrev pub state_bytes : Option Session → List ℕ
+state_bytes None = replicate slot_length 0
+state_bytes (Some s) = session_bytes s
 
-abbrev pub slot_bytes : Slot → List ℕ
-slot_bytes s = state_bytes s.state
+abbrev pub slot_bytes : Option Session → List ℕ
+slot_bytes s = state_bytes s
 
 -- a kind, and a wait, is 1 or 2
 abbrev pub is_code : ℕ → Bool
@@ -106,15 +103,15 @@ codes_ok state kind wait = eqb state 0 || (eqb state 1 && (is_code kind && is_co
 abbrev pub codes_in : List ℕ → Bool
 codes_in p = codes_ok (get_or p state_place 0) (get_or p kind_place 0) (get_or p wait_place 0)
 
-abbrev pub slot_at : List ℕ → Slot
-slot_at b = record { state = cond (eqb (get_or b state_place 0) 1) (Open (session_at b)) Closed }
+abbrev pub slot_at : List ℕ → Option Session
+slot_at b = cond (eqb (get_or b state_place 0) 1) (Some (session_at b)) None
 
 -- ---- the record: its head, and the slots
 
 unfoldable pub head_bytes : Receiver → List ℕ
 head_bytes r = r.own.0 ∷ low4 r.limits.first (low4 r.limits.second (low4 r.last []))
 
-unfoldable pub slots_bytes : List Slot → List ℕ
+unfoldable pub slots_bytes : List (Option Session) → List ℕ
 slots_bytes [] = []
 slots_bytes (s ∷ ss) = slot_bytes s ++ slots_bytes ss
 
@@ -122,7 +119,7 @@ abbrev pub record_bytes : Receiver → List ℕ
 record_bytes r = head_bytes r ++ slots_bytes r.slots
 
 -- slots put after the head in a buffer
-abbrev pub written : List Slot → List ℕ → List ℕ
+abbrev pub written : List (Option Session) → List ℕ → List ℕ
 written ss d = take head_length d ++ slots_bytes ss
 
 -- A buffer of a record's length takes the record; any other is left as it is.
@@ -141,7 +138,7 @@ unfoldable pub codes_all : List (List ℕ) → Bool
 codes_all [] = true
 codes_all (p ∷ ps) = cond (not (codes_in p)) false (codes_all ps)
 
-abbrev pub slots_at : List ℕ → List Slot
+abbrev pub slots_at : List ℕ → List (Option Session)
 slots_at b = map slot_at (pieces_of b)
 
 -- A buffer is a record if it has a record's length and each slot has codes.

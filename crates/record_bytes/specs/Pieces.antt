@@ -1,12 +1,10 @@
 -- The slots' pieces of a record, by their places.
-use Rattle.std.specs.Prelude.{ℕ, zero, suc, ◌+◌, ◌*◌, ◌<◌, ◌≡◌, refl, true, eqb, List, [], ◌∷◌, ◌++◌, map, length, get_or, take, drop}
+use Rattle.std.specs.Prelude.{ℕ, zero, suc, ◌+◌, ◌*◌, ◌<◌, ◌≡◌, refl, true, eqb, List, [], ◌∷◌, ◌++◌, map, length, get_or, take, drop, None, Option, Some}
 use Rattle.std.proofs.Common.{arith, ap, ◌∙◌, eqb-true, length-append, get_or-take, get_or-drop, drop-drop, take_at, drop_at}
 use Rattle.laws.specs.Bools.{guard_passed}
-use Rattle.slots.specs.declared.Slot.{Slot}
-use Rattle.session.specs.declared.State.{State}
-use Rattle.session.specs.declared.State.TheVariants.{Closed, Open}
 use Rattle.record_bytes.specs.Places.{record_length, head_length, slot_length, slot_place}
 use Rattle.record_bytes.specs.Layout.{session_bytes, state_bytes, slot_bytes, slots_bytes, pieces, pieces_of, codes_all, is_record}
+use Rattle.session.specs.declared.Session.{Session}
 
 pub length_pieces : (n : ℕ) (b : List ℕ) → length (pieces n b) ≡ n
 unfolding pieces
@@ -40,15 +38,15 @@ pub record_codes : (b : List ℕ) → is_record b ≡ true → codes_all (pieces
 unfolding is_record
 record_codes b h = (guard_passed (eqb (length b) record_length) (codes_all (pieces_of b)) h).1
 
-length_state : (st : State) → length (state_bytes st) ≡ slot_length
+length_state : (st : Option Session) → length (state_bytes st) ≡ slot_length
 unfolding session_bytes
-length_state Closed = refl
-length_state (Open s) = refl
+length_state None = refl
+length_state (Some s) = refl
 
-pub length_slot : (s : Slot) → length (slot_bytes s) ≡ slot_length
-length_slot s = length_state s.state
+pub length_slot : (s : Option Session) → length (slot_bytes s) ≡ slot_length
+length_slot s = length_state s
 
-pub length_slots : (ss : List Slot) → length (slots_bytes ss) ≡ slot_length * length ss
+pub length_slots : (ss : List (Option Session)) → length (slots_bytes ss) ≡ slot_length * length ss
 unfolding slots_bytes
 length_slots [] = refl
 length_slots (s ∷ ss) =
@@ -57,7 +55,7 @@ length_slots (s ∷ ss) =
     length-append (slot_bytes s) (slots_bytes ss) ∙ omega arith
 
 -- the pieces of the slots' bytes are the bytes of each
-pub pieces_slots : (ss : List Slot) → pieces (length ss) (slots_bytes ss) ≡ map slot_bytes ss
+pub pieces_slots : (ss : List (Option Session)) → pieces (length ss) (slots_bytes ss) ≡ map slot_bytes ss
 unfolding pieces slots_bytes
 pieces_slots [] = refl
 pieces_slots (s ∷ ss) =

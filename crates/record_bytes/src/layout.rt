@@ -6,29 +6,27 @@ ghost use Rattle.record_bytes.specs.Places.{record_length};
 use super::places::RECORD_BYTES;
 use super::put::{put_head, put_slot};
 use receiver::Receiver;
-use slots::{SLOTS, Slot};
+use session::Session;
+use slots::SLOTS;
 
 // The slots, after the head.
-fn write_slots(slots: [Slot; 8], out: &mut [u8])
-    requires { length out.old ≡ record_length }
+fn write_slots(slots: [Option<Session>; 8], out: &mut [u8; RECORD_BYTES])
     ensures { out.new ≡ written slots out.old }
 {
-    let mut i: usize = 0;
-    while i < SLOTS {
+    for i in 0..SLOTS {
         put_slot(out, i, slots[i]);
-        i = i + 1;
     }
 }
 
 // Writes the record into a buffer of RECORD_BYTES; one of another length is left as it is, and false is the answer.
+#[tactic(auto, unfolding(crate::specs::Layout::stored_in), using(crate::proofs::Slots::record_stored))]
 pub fn write_record(r: Receiver, out: &mut [u8]) -> bool
     ensures { (result, out.new) ≡ stored_in r out.old }
 {
-    if out.len() != RECORD_BYTES {
+    let Some(record) = out.as_mut_array::<RECORD_BYTES>() else {
         return false;
-    }
-    let slots = r.slots;
-    put_head(out, r);
-    write_slots(slots, out);
+    };
+    put_head(record, r);
+    write_slots(r.slots, record);
     true
 }

@@ -8,15 +8,14 @@ ghost use Rattle.record_bytes.specs.Places.{record_length, head_length, slot_len
 use super::long::put_long;
 use super::places::{
     FIRST_LIMIT_AT, GRANTED_AT, LAST_AT, MARK_AT, MAX_AT, MISSING_AT, NEXT_AT, OWN_AT, PGN_AT,
-    REQUESTS_AT, SECOND_LIMIT_AT, SEGMENTS_AT, SLOT_BYTES, TAKEN_AT, TAKEN_HIGH_AT, TOTAL_AT,
-    WAIT_AT, slot_place,
+    RECORD_BYTES, REQUESTS_AT, SECOND_LIMIT_AT, SEGMENTS_AT, SLOT_BYTES, TAKEN_AT, TAKEN_HIGH_AT,
+    TOTAL_AT, WAIT_AT, slot_place,
 };
 use super::slot::{kind_byte, wait_byte};
 use octets::copy;
 use progress::{Announced, Progress};
 use receiver::Receiver;
-use session::State;
-use slots::Slot;
+use session::Session;
 use words::put_word;
 
 // Writes what was announced, as an open slot begins; it begins at at.
@@ -48,8 +47,8 @@ fn put_gathered(out: &mut [u8], at: usize, p: Progress)
 }
 
 // Writes how far the session of slot i has come, after the bytes that stay as they were announced.
-pub fn put_progress(out: &mut [u8], i: usize, p: Progress)
-    requires { (i < 8) × (length out.old ≡ record_length) }
+pub fn put_progress(out: &mut [u8; RECORD_BYTES], i: usize, p: Progress)
+    requires { i < 8 }
     ensures { out.new ≡ paste out.old (progress_place i) (progress_bytes p) progress_length }
 {
     let at = slot_place(i);
@@ -63,18 +62,17 @@ pub fn put_progress(out: &mut [u8], i: usize, p: Progress)
 }
 
 // Writes slot i; a free one is all zeros.
-pub fn put_slot(out: &mut [u8], i: usize, s: Slot)
-    requires { (i < 8) × (length out.old ≡ record_length) }
+pub fn put_slot(out: &mut [u8; RECORD_BYTES], i: usize, s: Option<Session>)
+    requires { i < 8 }
     ensures { out.new ≡ paste out.old (slot_place i) (slot_bytes s) slot_length }
 {
     let at = slot_place(i);
-    let state = s.state;
-    match state {
-        State::Closed => {
+    match s {
+        None => {
             let zeros = [0u8; SLOT_BYTES];
             copy(out, at, &zeros, 0, SLOT_BYTES);
         }
-        State::Open(o) => {
+        Some(o) => {
             let a = o.announced;
             let p = o.progress;
             put_announced(out, at, a);
@@ -84,16 +82,14 @@ pub fn put_slot(out: &mut [u8], i: usize, s: Slot)
 }
 
 // Writes the last reading, after own address and idle limits.
-pub fn put_last(out: &mut [u8], reading: u32)
-    requires { length out.old ≡ record_length }
+pub fn put_last(out: &mut [u8; RECORD_BYTES], reading: u32)
     ensures { out.new ≡ paste out.old last_place (low4 reading []) 4 }
 {
     put_word(out, LAST_AT, reading);
 }
 
 // Writes the head: own address, both idle limits, last reading.
-pub fn put_head(out: &mut [u8], r: Receiver)
-    requires { length out.old ≡ record_length }
+pub fn put_head(out: &mut [u8; RECORD_BYTES], r: Receiver)
     ensures { out.new ≡ paste out.old 0 (head_bytes r) head_length }
 {
     let own = [r.own.0];

@@ -12,8 +12,7 @@ use frame::{Address, ByteCount, SegmentNumber, SessionNumber};
 use progress::wait::Wait;
 use progress::{Announced, Progress};
 use segments::Segments;
-use session::{Session, State};
-use slots::Slot;
+use session::Session;
 use transport::{Key, Kind};
 use words::word_at;
 
@@ -111,16 +110,12 @@ pub fn session_at(piece: &[u8]) -> Session
 }
 
 // The slot that a piece says.
-pub fn slot_at(piece: &[u8]) -> Slot
+pub fn slot_at(piece: &[u8]) -> Option<Session>
     requires { length piece.now ≡ slot_length }
     ensures { result ≡ slot_at piece.now }
 {
     if piece[STATE_AT] == 1 {
-        return Slot {
-            state: State::Open(session_at(piece)),
-        };
+        return Some(session_at(piece));
     }
-    Slot {
-        state: State::Closed,
-    }
+    None
 }

@@ -1,9 +1,10 @@
 -- Moved on after what a run took: its counts go on, and the next record is looked for where it stopped.
-use Rattle.std.specs.Prelude.{ℕ, ◌+◌, ◌-◌, ◌<◌, ◌≤◌, ◌^◌, ◌≡◌, List, length, take, drop}
+use Rattle.std.specs.Prelude.{ℕ, ◌+◌, ◌-◌, ◌<◌, ◌≤◌, ◌^◌, ◌≡◌, List, length, take, drop, Option, Some, None, Result, Ok, Err}
 use Rattle.run.specs.declared.piece.Went.{Went}
 use Rattle.replay.specs.declared.feed.Feed.{Feed}
-use Rattle.replay.specs.declared.input.Got.{Got}
-use Rattle.replay.specs.declared.input.Got.TheVariants as got
+use Rattle.std.specs.declared.io.Error.{Error}
+use Rattle.std.specs.declared.ops.ControlFlow.{ControlFlow}
+use Rattle.std.specs.declared.ops.ControlFlow.TheVariants.{Continue, Break}
 
 pub record Moves (f : Feed) (w : Went) (r : Feed) : Type 0 where
   pub records : r.records ≡ w.records
@@ -11,13 +12,17 @@ pub record Moves (f : Feed) (w : Went) (r : Feed) : Type 0 where
   pub at : f.at + w.at ≤ f.filled → r.at ≡ f.at + w.at
   pub filled : r.filled ≡ f.filled
   pub put : r.put ≡ w.put
-  pub on : r.is_on ≡ f.is_on
+
+-- the run is over
+abbrev pub IsBreak : ControlFlow ℕ Feed → Type 0
+IsBreak (Continue f) = ⊥
+IsBreak (Break put) = Unit {0}
 
 -- a window that is filled holds what was kept, at least
-abbrev pub Behind : ℕ → Got → Type 0
-Behind kept (got.Bytes n) = kept ≤ n
-Behind kept got.End = Unit {0}
-Behind kept got.Failed = Unit {0}
+abbrev pub Behind : ℕ → Result (Option ℕ) Error → Type 0
+Behind kept (Ok (Some n)) = kept ≤ n
+Behind kept (Ok None) = Unit {0}
+Behind kept (Err error) = Unit {0}
 
 -- more of the input after what was left of the window w: that is at the front of the window after, w'
 pub record Refills (f : Feed) (w : List ℕ) (r : Feed) (w' : List ℕ) : Type 0 where

@@ -1,14 +1,16 @@
 // The run fed from standard input: piece after piece until the trace ends or a record is bad.
-ghost use Rattle.std.specs.Prelude.{◌≡◌, ◌⊎◌, true, false, ◌+◌, ◌-◌, ◌<◌, ◌≤◌, ◌^◌};
-ghost use Rattle.replay.specs.Moves.{Moves, Refills};
+ghost use Rattle.std.specs.Prelude.{◌≡◌, ◌⊎◌};
+ghost use Rattle.std.specs.ControlFlow.{ForContinue};
+ghost use Rattle.std.specs.declared.ops.ControlFlow.TheVariants.{Break};
+ghost use Rattle.replay.specs.Moves.{Moves, IsBreak, Refills};
 
-use super::input::{Got, fill};
+use super::input::fill;
 use super::output;
 use answer::place::cut;
 use run::piece::{Stop, Went};
 use run::{kept, whole};
 use std::io::Read;
-use text::Wrote;
+use std::ops::ControlFlow;
 
 // How far it has come.
 #[derive(Clone, Copy)]
@@ -21,80 +23,45 @@ pub struct Feed {
     pub filled: usize,
     // the bytes of lines that wait to be written
     pub put: usize,
-    pub is_on: bool,
-}
-
-fn stopped(f: Feed) -> Feed
-    ensures { result.is_on ≡ false }
-{
-    let mut next = f;
-    next.is_on = false;
-    next
-}
-
-fn sum(a: u64, b: u64) -> u64
-    ensures { a + b < 2 ^ 64 → result ≡ a + b }
-{
-    if b <= u64::MAX - a { a + b } else { u64::MAX }
-}
-
-// The bytes of the window that are not taken yet.
-fn left(f: Feed) -> usize
-    ensures { result ≡ f.filled - f.at }
-{
-    if f.at <= f.filled { f.filled - f.at } else { 0 }
-}
-
-// n places after at, and not after the end.
-fn forward(at: usize, n: usize, end: usize) -> usize
-    ensures { at + n ≤ end → result ≡ at + n }
-{
-    if end <= at {
-        return end;
-    }
-    if n <= end - at { at + n } else { end }
 }
 
 // Moved on after what was taken.
 fn moved(f: Feed, went: Went) -> Feed
     ensures { Moves f went result }
 {
-    let mut next = f;
-    next.records = went.records;
-    next.offset = sum(f.offset, went.at as u64);
-    next.at = forward(f.at, went.at, f.filled);
-    next.put = went.put;
-    next
+    Feed {
+        records: went.records,
+        offset: f.offset.saturating_add(went.at as u64),
+        at: f.at.saturating_add(went.at).min(f.filled),
+        filled: f.filled,
+        put: went.put,
+    }
 }
+
+// ---- What follows goes on from a Feed, or breaks off with so many bytes of lines that wait to be written.
 
 // The lines written. Where that fails, nothing more is done.
-fn flushed(rt: &(impl Print + Eprint), f: Feed, lines: &[u8]) -> Feed {
-    let mut next = f;
-    next.put = 0;
-    if output::flush(rt, lines, f.put) {
-        return next;
+fn flushed(rt: &(impl Print + Eprint), f: Feed, lines: &[u8]) -> ControlFlow<usize, Feed> {
+    match output::flush(rt, lines, f.put) {
+        Ok(()) => ControlFlow::Continue(Feed { put: 0, ..f }),
+        Err(_) => ControlFlow::Break(0),
     }
-    stopped(next)
 }
 
-fn failed(rt: &impl Eprint, f: Feed, message: &str) -> Feed
-    ensures { result.is_on ≡ false }
+fn failed(rt: &impl Eprint, f: Feed, message: &str) -> ControlFlow<usize, Feed>
+    ensures { result ≡ Break f.put }
 {
     output::complain(rt, message);
-    stopped(f)
+    ControlFlow::Break(f.put)
 }
 
 // The last line. It has room, since the lines before it were written.
-fn finished(rt: &impl Eprint, f: Feed, window: &[u8], lines: &mut [u8]) -> Feed
-    ensures { result.is_on ≡ false }
+fn finished(rt: &impl Eprint, f: Feed, window: &[u8], lines: &mut [u8]) -> ControlFlow<usize, Feed>
+    ensures { IsBreak result }
 {
-    let mut next = f;
     match whole::finish(cut(window, 0, f.filled), f.records, f.offset, lines, f.put) {
-        Wrote::Written(put) => {
-            next.put = put;
-            stopped(next)
-        }
-        Wrote::Short => failed(rt, f, "receive: no room for the last line"),
+        Some(put) => ControlFlow::Break(put),
+        None => failed(rt, f, "receive: no room for the last line"),
     }
 }
 
@@ -105,23 +72,23 @@ fn refilled(
     f: Feed,
     window: &mut [u8],
     lines: &mut [u8],
-) -> Feed
-    ensures { result.is_on ≡ true → Refills f window.old result window.new }
+) -> ControlFlow<usize, Feed>
+    ensures { ForContinue result (λ g. Refills f window.old g window.new) }
 {
-    let mut next = flushed(rt, f, lines);
-    if !next.is_on {
-        return next;
-    }
-    let n = kept::keep(window, f.at, f.filled);
-    next.at = 0;
-    next.filled = n;
-    match fill(rt, input, window, n) {
-        Got::Bytes(filled) => {
-            next.filled = filled;
-            next
+    let flushed = flushed(rt, f, lines)?;
+    let kept = kept::keep(window, f.at, f.filled);
+    let next = Feed {
+        at: 0,
+        filled: kept,
+        ..flushed
+    };
+    match fill(input, window, kept) {
+        Ok(Some(filled)) => ControlFlow::Continue(Feed { filled, ..next }),
+        Ok(None) => finished(rt, next, window, lines),
+        Err(error) => {
+            output::tell(rt, "read", &error);
+            ControlFlow::Break(next.put)
         }
-        Got::End => finished(rt, next, window, lines),
-        Got::Failed => stopped(next),
     }
 }
 
@@ -134,8 +101,8 @@ fn turn(
     receiver: &mut [u8],
     store: &mut [u8],
     lines: &mut [u8],
-) -> Feed {
-    let bytes = cut(window, before.at, left(before));
+) -> ControlFlow<usize, Feed> {
+    let bytes = cut(window, before.at, before.filled.saturating_sub(before.at));
     let went = whole::take(
         bytes,
         before.records,
@@ -146,11 +113,10 @@ fn turn(
         before.put,
     );
     let f = moved(before, went);
-    let stop = went.stop;
-    match stop {
+    match went.stop {
         Stop::Bytes => refilled(rt, input, f, window, lines),
         Stop::Room => flushed(rt, f, lines),
-        Stop::Bad => stopped(f),
+        Stop::Bad => ControlFlow::Break(f.put),
         Stop::Lost => failed(rt, f, "receive: the lines of a record are lost"),
         Stop::Long => failed(rt, f, "receive: the trace is too long to be counted"),
     }
@@ -159,12 +125,12 @@ fn turn(
 // How the feeding ended, and after how many turns.
 #[derive(Clone, Copy)]
 pub struct Ended {
-    pub feed: Feed,
+    pub flow: ControlFlow<usize, Feed>,
     pub turns: u64,
 }
 
 // A loop has to end, and nothing says that the input does: it counts its turns, and leaves off before the end only at a number that no run
-// uses up.
+// uses up. The count stands in the answer, for the promise, so it is counted by hand.
 fn fed(
     rt: &(impl Print + Eprint),
     input: &mut impl Read,
@@ -173,31 +139,24 @@ fn fed(
     store: &mut [u8],
     lines: &mut [u8],
 ) -> Ended
-    ensures { (result.feed.is_on ≡ false) ⊎ (result.turns ≡ 18446744073709551615) }
+    ensures { IsBreak result.flow ⊎ (result.turns ≡ 18446744073709551615) }
 {
-    let mut f = Feed {
+    let mut flow = ControlFlow::Continue(Feed {
         records: 0,
         offset: 0,
         at: 0,
         filled: 0,
         put: 0,
-        is_on: true,
-    };
+    });
     let mut turns: u64 = 0;
     while turns < u64::MAX {
-        if !f.is_on {
-            return Ended {
-                feed: f,
-                turns: turns,
-            };
-        }
-        f = turn(rt, input, f, window, receiver, store, lines);
+        let ControlFlow::Continue(f) = flow else {
+            return Ended { flow, turns };
+        };
+        flow = turn(rt, input, f, window, receiver, store, lines);
         turns = turns + 1;
     }
-    Ended {
-        feed: f,
-        turns: turns,
-    }
+    Ended { flow, turns }
 }
 
 pub fn all(
@@ -208,6 +167,9 @@ pub fn all(
     store: &mut [u8],
     lines: &mut [u8],
 ) {
-    let ended = fed(rt, input, window, receiver, store, lines);
-    output::flush(rt, lines, ended.feed.put);
+    let put = match fed(rt, input, window, receiver, store, lines).flow {
+        ControlFlow::Break(put) => put,
+        ControlFlow::Continue(f) => f.put,
+    };
+    let _written = output::flush(rt, lines, put);
 }

@@ -2,33 +2,17 @@
 ghost use Rattle.std.specs.Prelude.{◌≡◌, take};
 ghost use Rattle.replay.specs.Moves.{Behind};
 
-use super::output::tell;
-use std::io::{Error, Read};
+use std::io::{self, Error, Read};
 
-// What a read gave.
-#[derive(Clone, Copy)]
-pub enum Got {
-    // the window now holds so many bytes
-    Bytes(usize),
-    // the input is over
-    End,
-    Failed,
-}
-
-// Reads more bytes after the first kept ones, which stay as they are.
-pub fn fill(rt: &impl Eprint, input: &mut impl Read, window: &mut [u8], kept: usize) -> Got
+// Reads more bytes after the first kept ones, which stay as they are. Answers how many the window now holds; none where the input is over.
+pub fn fill(input: &mut impl Read, window: &mut [u8], kept: usize) -> io::Result<Option<usize>>
     ensures { (take kept window.new ≡ take kept window.old) × Behind kept result }
 {
     if window.len() <= kept {
-        tell(rt, "read", Error::other("no room in the window"));
-        return Got::Failed;
+        return Err(Error::other("no room in the window"));
     }
-    match input.read(&mut window[kept..]) {
-        Ok(0) => Got::End,
-        Ok(more) => Got::Bytes(kept + more),
-        Err(error) => {
-            tell(rt, "read", error);
-            Got::Failed
-        }
+    match input.read(&mut window[kept..])? {
+        0 => Ok(None),
+        more => Ok(Some(kept + more)),
     }
 }

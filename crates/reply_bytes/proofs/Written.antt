@@ -6,15 +6,15 @@ use lib.ListN.{length}
 use lib.Seq.{paste}
 use Rattle.answer_bytes.specs.declared.Fields.{Fields}
 use Rattle.answer_bytes.specs.Places.{answer_length, sent_place, sent_length}
-use Rattle.answer_bytes.specs.Answers.{fields_bytes}
+use Rattle.std.specs.Prelude.{Option}
+use Rattle.answer_bytes.specs.declared.Outgoing.{Outgoing}
+use Rattle.answer_bytes.specs.Answers.{fields_bytes, outgoing_bytes}
 use Rattle.answer_bytes.specs.Puts.{fields_put, whole_put}
-use Rattle.reply_bytes.specs.declared.goes.Going.{Going}
-use Rattle.reply_bytes.specs.Going.{going_bytes}
 
-module _ (F G : Fields) (g : Going) (S : List ℕ) (size : length S ≡ sent_length) (eF : F ≡ G) (eS : going_bytes g ≡ S) (d o₁ o₂ : List ℕ) where
+module _ (F G : Fields) (g : Option Outgoing) (S : List ℕ) (size : length S ≡ sent_length) (eF : F ≡ G) (eS : outgoing_bytes g ≡ S) (d o₁ o₂ : List ℕ) where
   pub placed : (at : ℕ) → at + answer_length ≤ length d
       → o₁ ≡ paste d at (fields_bytes F) sent_place
-      → o₂ ≡ paste o₁ (at + sent_place) (going_bytes g) sent_length
+      → o₂ ≡ paste o₁ (at + sent_place) (outgoing_bytes g) sent_length
       → o₂ ≡ paste d at (fields_bytes G ++ S) answer_length
   placed at room e₁ e₂ =
       fields_put G S size d o₁ o₂ at room
@@ -23,7 +23,7 @@ module _ (F G : Fields) (g : Going) (S : List ℕ) (size : length S ≡ sent_len
 
   pub written : length d ≡ answer_length
       → o₁ ≡ paste d 0 (fields_bytes F) sent_place
-      → o₂ ≡ paste o₁ sent_place (going_bytes g) sent_length
+      → o₂ ≡ paste o₁ sent_place (outgoing_bytes g) sent_length
       → o₂ ≡ fields_bytes G ++ S
   written long e₁ e₂ =
       whole_put G S size d o₁ o₂ long

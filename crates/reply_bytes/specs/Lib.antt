@@ -1,4 +1,3 @@
 pub mod Places
 pub mod Replies
-pub mod Going
 pub mod Laws

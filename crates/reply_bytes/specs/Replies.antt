@@ -1,17 +1,14 @@
 -- A sender's reply as bytes, in the layout of an answer: codes 10 to 18, then the frame that goes out (docs/WIRE.md).
-use Rattle.std.specs.Prelude.{ℕ, ◌%◌, cond, List, ◌++◌, eqb, replicate}
-use Rattle.std.proofs.Math.Option.{Option, none, some}
+use Rattle.std.specs.Prelude.{ℕ, ◌%◌, List, ◌++◌, replicate, None, Option, Some}
 use Rattle.frame.specs.Refusals.{number_of}
 use Rattle.answer.specs.declared.Ending.{Ending}
-use Rattle.answer.specs.declared.End.{End}
-use Rattle.answer.specs.declared.End.TheVariants as end
-use Rattle.answer.specs.declared.SlotEnd.{SlotEnd}
 use Rattle.answer.specs.Answers.{Wire}
 use Rattle.transfer.specs.declared.Offer.{Offer}
 use Rattle.transfer.specs.declared.Reply.{Reply}
 use Rattle.transfer.specs.declared.Reply.TheVariants as reply
 use Rattle.transfer.specs.Transfers.{segments_of, offer_kind}
 use Rattle.transfer.specs.Sends.{ending_wire}
+use Rattle.sender.specs.declared.Laid.{Laid}
 use Rattle.sender.specs.declared.Sent.{Sent}
 use Rattle.record_bytes.specs.Layout.{kind_byte}
 use Rattle.answer_bytes.specs.declared.Fields.{Fields}
@@ -60,23 +57,28 @@ reply_number r = (reply_fields r 0).number
 -- the Abort of a transfer that a refusal has ended
 abbrev pub abort_of : Reply → Option Wire
 abort_of (reply.Ended e) = ending_wire e
-abort_of (reply.Announced o) = none
-abort_of (reply.Segment n) = none
-abort_of (reply.Status o) = none
-abort_of reply.NothingDue = none
-abort_of reply.Granted = none
-abort_of (reply.Acknowledged k) = none
-abort_of (reply.Aborted k) = none
-abort_of (reply.Refused n) = none
+abort_of (reply.Announced o) = None
+abort_of (reply.Segment n) = None
+abort_of (reply.Status o) = None
+abort_of reply.NothingDue = None
+abort_of reply.Granted = None
+abort_of (reply.Acknowledged k) = None
+abort_of (reply.Aborted k) = None
+abort_of (reply.Refused n) = None
 
 -- a control frame in the answer itself: 1, identifier, 12 bytes; zeros where there is none
 abbrev pub wire_bytes : Option Wire → List ℕ
-wire_bytes none = replicate sent_length 0
-wire_bytes (some w) = sent_head w.0 ++ w.1
+wire_bytes None = replicate sent_length 0
+wire_bytes (Some w) = sent_head w.0 ++ w.1
 
 -- a frame in the lent output: 1, identifier, and zeros for its data
-abbrev pub laid_bytes : Sent → List ℕ
-laid_bytes s = cond (eqb s.len 0) (replicate sent_length 0) (sent_head s.id ++ replicate data_length 0)
+abbrev pub laid_bytes : Option Laid → List ℕ
+laid_bytes None = replicate sent_length 0
+laid_bytes (Some f) = sent_head f.id ++ replicate data_length 0
+
+abbrev pub laid_length : Option Laid → ℕ
+laid_length None = 0
+laid_length (Some f) = f.len
 
 -- ---- whole
 
@@ -86,12 +88,12 @@ reply_bytes r = fields_bytes (reply_fields r 0) ++ wire_bytes (abort_of r)
 
 -- of an announcement, and of a call for a frame
 abbrev pub given_bytes : Sent → List ℕ
-given_bytes s = fields_bytes (reply_fields s.reply s.len) ++ laid_bytes s
+given_bytes s = fields_bytes (reply_fields s.reply (laid_length s.frame)) ++ laid_bytes s.frame
 
 -- of a reading: a transfer that ended is answered as a control frame that ends one; zeros where none did
-abbrev pub transfer_end_bytes : End → List ℕ
-transfer_end_bytes end.Stays = replicate answer_length 0
-transfer_end_bytes (end.Ended e) = reply_bytes (reply.Ended e)
+abbrev pub transfer_end_bytes : Option Ending → List ℕ
+transfer_end_bytes None = replicate answer_length 0
+transfer_end_bytes (Some e) = reply_bytes (reply.Ended e)
 
-abbrev pub transfer_ends_bytes : List SlotEnd → List ℕ
+abbrev pub transfer_ends_bytes : List (Option Ending) → List ℕ
 transfer_ends_bytes es = ends_by transfer_end_bytes es

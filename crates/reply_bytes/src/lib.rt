@@ -1,42 +1,32 @@
 // A sender's reply as bytes, in the layout of an answer (answer_bytes), for a caller that is not Rattle. Its codes are its own, 10 to 18, so
-// that the code alone says which end answered.
+// that the code alone says which end answered: numbers of the C interface (docs/WIRE.md).
 #![tactic(auto)]
 
 ghost use Rattle.std.specs.Prelude.{◌≡◌, ◌%◌, length};
 ghost use Rattle.answer_bytes.specs.Places.{answer_length};
-ghost use Rattle.reply_bytes.specs.Replies.{offer_fields, segment_fields, reply_fields, reply_number, reply_bytes, given_bytes};
+ghost use Rattle.reply_bytes.specs.Replies.{offer_fields, segment_fields, laid_length, reply_fields, reply_number, reply_bytes, given_bytes};
 
 pub mod ends;
 pub mod goes;
 
-use answer_bytes::{Fields, ended_fields, keyed_fields, no_key, put_fields};
+use answer_bytes::{Fields, ended_fields, keyed_fields, no_key, put_fields, put_outgoing};
 use frame::{SegmentNumber, refusal};
-use goes::{going_of_reply, going_of_sent, put_going};
+use goes::{going_of_reply, going_of_sent};
 use record_bytes::slot::kind_byte;
-use sender::Sent;
+use sender::{Laid, Sent};
 use transfer::{Offer, Reply, kind_of, segments};
 
-// A frame's length, at most 64.
-fn length_byte(len: usize) -> u8
-    ensures { result ≡ len % 256 }
-{
-    (len % 256) as u8
-}
-
+// Extra is the frame's length, at most 64.
 fn offer_fields(code: u8, o: Offer, len: usize) -> Fields
     ensures { result ≡ offer_fields code o len }
 {
-    let key = o.key;
-    let total = o.total;
     Fields {
-        number: 0,
-        code: code,
-        key: key,
-        kind: kind_byte(kind_of(key.da)),
-        extra: length_byte(len),
+        kind: kind_byte(kind_of(o.key.da)),
+        extra: (len % 256) as u8,
         pgn: o.pgn,
-        total: total.0,
-        segment: segments(total),
+        total: o.total.0,
+        segment: segments(o.total),
+        ..keyed_fields(code, 0, o.key)
     }
 }
 
@@ -44,14 +34,9 @@ fn segment_fields(n: SegmentNumber, len: usize) -> Fields
     ensures { result ≡ segment_fields n.0 len }
 {
     Fields {
-        number: 0,
-        code: 11,
-        key: no_key(),
-        kind: 0,
-        extra: length_byte(len),
-        pgn: 0,
-        total: 0,
+        extra: (len % 256) as u8,
         segment: n.0,
+        ..keyed_fields(11, 0, no_key())
     }
 }
 
@@ -76,18 +61,9 @@ pub fn number(r: Reply) -> u8
     ensures { result ≡ reply_number r }
 {
     match r {
-        Reply::Announced(_) => 0,
-        Reply::Segment(_) => 0,
-        Reply::Status(_) => 0,
-        Reply::NothingDue => 0,
-        Reply::Granted => 0,
-        Reply::Acknowledged(_) => 0,
-        Reply::Aborted(_) => 0,
-        Reply::Ended(e) => {
-            let n = e.refusal;
-            refusal::number(n)
-        }
+        Reply::Ended(e) => refusal::number(e.refusal),
         Reply::Refused(n) => refusal::number(n),
+        _ => 0,
     }
 }
 
@@ -97,7 +73,14 @@ pub fn write_reply(r: Reply, out: &mut [u8])
     ensures { out.new ≡ reply_bytes r }
 {
     put_fields(reply_fields(r, 0), out, 0);
-    put_going(going_of_reply(r), out, 0);
+    put_outgoing(going_of_reply(r), out, 0);
+}
+
+// The length of the frame that goes out, 0 where none does.
+fn laid_length(frame: Option<Laid>) -> usize
+    ensures { result ≡ laid_length frame }
+{
+    frame.map_or(0, |f| f.len)
 }
 
 // Writes what an announcement or a call for a frame was answered over a buffer of ANSWER_BYTES.
@@ -105,7 +88,6 @@ pub fn write_sent(s: Sent, out: &mut [u8])
     requires { length out.old ≡ answer_length }
     ensures { out.new ≡ given_bytes s }
 {
-    let reply = s.reply;
-    put_fields(reply_fields(reply, s.len), out, 0);
-    put_going(going_of_sent(s), out, 0);
+    put_fields(reply_fields(s.reply, laid_length(s.frame)), out, 0);
+    put_outgoing(going_of_sent(s), out, 0);
 }

@@ -1,19 +1,16 @@
 -- What the program prints: 01, "Program".
-use Rattle.std.specs.Prelude.{ℕ, List, [], ◌∷◌, ◌++◌}
+use Rattle.std.specs.Prelude.{ℕ, List, [], ◌∷◌, ◌++◌, Err, None, Ok, Option, Result, Some, ⊤}
 use Rattle.frame.specs.Refusals.{number_of}
 use Rattle.frame.specs.declared.judge.Route.{Route}
 use Rattle.multi_pg.specs.declared.Group.{Group}
 use Rattle.multi_pg.specs.Groups.{groups_of}
 use Rattle.answer.specs.declared.Answer.{Answer}
 use Rattle.answer.specs.declared.Answer.TheVariants.{Groups, Opened, Taken, Grant, HandedOver, Aborted, Ended, RefusedRts, Refused}
-use Rattle.answer.specs.declared.End.{End}
-use Rattle.answer.specs.declared.End.TheVariants as end
-use Rattle.answer.specs.declared.SlotEnd.{SlotEnd}
-use Rattle.answer.specs.declared.Acceptance.{Acceptance}
-use Rattle.answer.specs.declared.Acceptance.TheVariants as acceptance
 use Rattle.text.specs.Ascii.{ascii}
 use Rattle.text.specs.Line.{line_of}
 use Rattle.session_lines.specs.Lines.{session_line, refused_line, ending_line, message_lines, open_word, took_word, cts_word, abort_word, ended_word}
+use Rattle.answer.specs.declared.Ending.{Ending}
+use Rattle.frame.specs.declared.refusal.Refusal.{Refusal}
 
 -- ---- a Multi-PG frame
 
@@ -49,17 +46,17 @@ answer_lines d (Refused n) bytes = refused_line n
 
 -- ---- a reading: a refusal of the call, or for each slot, in slot order, its ending
 
-abbrev pub end_lines : End → List ℕ
-end_lines end.Stays = []
-end_lines (end.Ended e) = ending_line e
+abbrev pub end_lines : Option Ending → List ℕ
+end_lines None = []
+end_lines (Some e) = ending_line e
 
-unfoldable pub ends_lines : List SlotEnd → List ℕ
+unfoldable pub ends_lines : List (Option Ending) → List ℕ
 ends_lines [] = []
-ends_lines (s ∷ ss) = end_lines s.end ++ ends_lines ss
+ends_lines (s ∷ ss) = end_lines s ++ ends_lines ss
 
-abbrev pub reading_lines : Acceptance → List SlotEnd → List ℕ
-reading_lines acceptance.Accepted ends = ends_lines ends
-reading_lines (acceptance.Refused n) ends = refused_line n
+abbrev pub reading_lines : Result ⊤ Refusal → List (Option Ending) → List ℕ
+reading_lines (Ok tt) ends = ends_lines ends
+reading_lines (Err n) ends = refused_line n
 
 -- ---- the end of a run
 

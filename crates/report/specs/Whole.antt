@@ -1,5 +1,5 @@
 -- 01's whole case, line by line, and a line of each kind that it leaves out. Every one is computed.
-use Rattle.std.specs.Prelude.{ℕ, ◌≡◌, refl, List, [], ◌∷◌, replicate}
+use Rattle.std.specs.Prelude.{ℕ, ◌≡◌, refl, List, [], ◌∷◌, replicate, Err, None, Ok, Option, Some}
 use Rattle.frame.specs.declared.refusal.Refusal.TheVariants.{OutOfSequence, RequestsSpent, Silence, OutOfBounds, AnnouncementForm, FrameLength}
 use Rattle.frame.specs.declared.judge.Route.{Route}
 use Rattle.multi_pg.specs.Groups.{groups_read, read_from}
@@ -9,13 +9,11 @@ use Rattle.transport.specs.declared.Kind.TheVariants.{Rts, Bam}
 use Rattle.answer.specs.declared.Message.{Message}
 use Rattle.answer.specs.declared.Answer.{Answer}
 use Rattle.answer.specs.declared.Answer.TheVariants.{Groups, Opened, Taken, Grant, HandedOver, Aborted, Ended, RefusedRts, Refused}
-use Rattle.answer.specs.declared.SlotEnd.{SlotEnd}
-use Rattle.answer.specs.declared.End.TheVariants as end
-use Rattle.answer.specs.declared.Acceptance.TheVariants as acceptance
 use Rattle.text.specs.Ascii.{ascii}
 use Rattle.text.specs.Decimal.{decimal, digits_of, width_of, width_from}
 use Rattle.text.specs.Line.{line_of, numbers, spaced}
 use Rattle.report.specs.Lines.{answer_lines, group_lines, reading_lines, ends_lines, end_line, bad_line}
+use Rattle.answer.specs.declared.Ending.{Ending}
 
 abbrev key : Key
 key = record { sa = record { 0 = 128 }; da = record { 0 = 33 }; session = record { 0 = 3 } }
@@ -27,18 +25,18 @@ route = record { sa = record { 0 = 128 }; da = record { 0 = 33 } }
 abbrev printed : Answer → List ℕ → List ℕ
 printed a bytes = answer_lines [] a bytes
 
-abbrev stays : SlotEnd
-stays = record { end = end.Stays }
+abbrev stays : Option Ending
+stays = None
 
-abbrev silent : Kind → SlotEnd
-silent k = record { end = end.Ended (record { key = key; kind = k; refusal = Silence; pgn = 65226 }) }
+abbrev silent : Kind → Option Ending
+silent k = Some (record { key = key; kind = k; refusal = Silence; pgn = 65226 })
 
 abbrev message : Kind → Message
 message k =
     record { key = key; kind = k; total = record { 0 = 3 }; segments = record { 0 = 1 }; pgn = 65226; slot = 0 }
 
 pub record WholeCase : Type 0 where
-  pub a : reading_lines acceptance.Accepted (replicate 8 stays) ≡ []
+  pub a : reading_lines (Ok tt) (replicate 8 stays) ≡ []
   pub b : answer_lines (0x40 ∷ 0xEA ∷ 0x00 ∷ 0x03 ∷ 0xCA ∷ 0xFE ∷ 0x00 ∷ []) (Groups route) [] ≡ ascii "pg 128 33 59904 3\n"
   pub c : printed (Grant (record { key = key; next = record { 0 = 1 }; count = 2; pgn = 65226 })) [] ≡ ascii "send cts 128 3 1 2\n"
   pub d : printed (Taken (record { key = key; number = record { 0 = 2 } })) [] ≡ ascii "took 128 3 2\n"
@@ -59,8 +57,8 @@ pub record OtherLines : Type 0 where
   pub ended_bam : printed (Ended (record { key = key; kind = Bam; refusal = OutOfSequence; pgn = 65226 })) [] ≡ ascii "ended 128 3 19\n"
   pub rejected : printed (RefusedRts (record { key = key; refusal = AnnouncementForm; pgn = 65226 })) [] ≡ ascii "send abort 128 3 11\n"
   pub refused : printed (Refused FrameLength) [] ≡ ascii "refused 1\n"
-  pub silence : reading_lines acceptance.Accepted (stays ∷ silent Rts ∷ silent Bam ∷ replicate 5 stays) ≡ ascii "send abort 128 3 22\nended 128 3 22\n"
-  pub out_of_bounds : reading_lines (acceptance.Refused OutOfBounds) (replicate 8 stays) ≡ ascii "refused 23\n"
+  pub silence : reading_lines (Ok tt) (stays ∷ silent Rts ∷ silent Bam ∷ replicate 5 stays) ≡ ascii "send abort 128 3 22\nended 128 3 22\n"
+  pub out_of_bounds : reading_lines (Err OutOfBounds) (replicate 8 stays) ≡ ascii "refused 23\n"
   pub bad : bad_line 1000 ≡ ascii "bad record at 1000\n"
 
 pub other_lines : OtherLines

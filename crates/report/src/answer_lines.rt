@@ -7,10 +7,16 @@ use answer::Answer;
 use session_lines::ending::{write_aborted, write_ending, write_refused, write_rejection};
 use session_lines::message::write_handed_over;
 use session_lines::progress::{write_grant, write_opened, write_taken};
-use text::Wrote;
 
 // The lines of the answer to a frame: its data, and the part of the store that the answer speaks of.
-pub fn write_answer(out: &mut [u8], at: usize, frame: &[u8], answer: Answer, bytes: &[u8]) -> Wrote
+#[tactic(auto, unfolding(crate::specs::Lines::answer_lines))]
+pub fn write_answer(
+    out: &mut [u8],
+    at: usize,
+    frame: &[u8],
+    answer: Answer,
+    bytes: &[u8],
+) -> Option<usize>
     ensures { Placed out.old at (answer_lines frame.now answer bytes.now) result out.new }
 {
     match answer {

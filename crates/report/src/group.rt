@@ -1,15 +1,15 @@
 // The lines of a Multi-PG frame's groups.
 ghost use Rattle.std.specs.Prelude.{◌≡◌, ◌+◌, ◌≤◌, length};
-ghost use Rattle.multi_pg.specs.Groups.{groups_of, start_of};
+ghost use Rattle.multi_pg.specs.Groups.{groups_of};
+ghost use Rattle.reader.specs.Runs.{groups_left};
 ghost use Rattle.report.specs.Lines.{group_numbers, group_line, group_lines};
 ghost use Rattle.text.specs.Line.{left_by, Placed};
 ghost use Rattle.text.specs.Put.{PutAt};
 
 use frame::judge::Route;
-use multi_pg::{Group, Next};
-use reader::{first_place, group_at, place_after};
-use text::line::{left_after_plain, put_plain};
-use text::{Left, Wrote};
+use multi_pg::Group;
+use reader::Reader;
+use text::line::Line;
 
 fn group_numbers(route: Route, group: Group) -> [u64; 4]
     ensures { result ≡ group_numbers route group }
@@ -22,11 +22,11 @@ fn group_numbers(route: Route, group: Group) -> [u64; 4]
     ]
 }
 
-fn left_after_group(room: usize, route: Route, group: Group) -> Left
+fn left_after_group(room: usize, route: Route, group: Group) -> Option<usize>
     ensures { result ≡ left_by room (length (group_line route group)) }
 {
     let fields = group_numbers(route, group);
-    left_after_plain(room, b"pg", &fields)
+    Line::plain(b"pg", &fields).left_after(room)
 }
 
 fn put_group(out: &mut [u8], at: usize, route: Route, group: Group) -> usize
@@ -34,63 +34,37 @@ fn put_group(out: &mut [u8], at: usize, route: Route, group: Group) -> usize
     ensures { PutAt out.old at (group_line route group) result out.new }
 {
     let fields = group_numbers(route, group);
-    put_plain(out, at, b"pg", &fields)
+    Line::plain(b"pg", &fields).put(out, at)
 }
 
-// Here and below first is the place of a reader made over the frame: to make one judges the frame, which is done once.
-fn left_after_groups(room: usize, route: Route, frame: &[u8], first: usize) -> Left
-    requires { first ≡ start_of frame.now }
-    ensures { result ≡ left_by room (length (group_lines route (groups_of frame.now))) }
+// The room that the lines of what a reader still gives leave.
+fn left_after_groups(room: usize, route: Route, groups: Reader) -> Option<usize>
+    ensures { result ≡ left_by room (length (group_lines route (groups_left groups.entry))) }
 {
-    let mut at = first;
     let mut left = room;
-    loop {
-        match group_at(frame, at) {
-            Next::End => {
-                return Left::Enough(left);
-            }
-            Next::Given(group, _) => {
-                let Left::Enough(behind) = left_after_group(left, route, group) else {
-                    return Left::Short;
-                };
-                left = behind;
-                at = place_after(frame, at);
-            }
-        }
+    for group in groups {
+        left = left_after_group(left, route, group)?;
     }
+    Some(left)
 }
 
-fn put_groups(out: &mut [u8], at: usize, route: Route, frame: &[u8], first: usize) -> usize
-    requires first_value { first ≡ start_of frame.now }
-    requires frame_in_bounds { at + length (group_lines route (groups_of frame.now)) ≤ length out.old }
-    ensures { PutAt out.old at (group_lines route (groups_of frame.now)) result out.new }
+fn put_groups(out: &mut [u8], at: usize, route: Route, groups: Reader) -> usize
+    requires { at + length (group_lines route (groups_left groups)) ≤ length out.old }
+    ensures { PutAt out.old at (group_lines route (groups_left groups.entry)) result out.new }
 {
-    let mut place = first;
     let mut next = at;
-    loop {
-        match group_at(frame, place) {
-            Next::End => {
-                return next;
-            }
-            Next::Given(group, _) => {
-                next = put_group(out, next, route, group);
-                place = place_after(frame, place);
-            }
-        }
+    for group in groups {
+        next = put_group(out, next, route, group);
     }
+    next
 }
 
-// A line for each group of a frame; none if the frame is refused.
-pub fn write_groups(out: &mut [u8], at: usize, route: Route, frame: &[u8]) -> Wrote
+// A line for each group of a frame; none if the frame is refused. To make a reader judges the frame, which is done once.
+pub fn write_groups(out: &mut [u8], at: usize, route: Route, frame: &[u8]) -> Option<usize>
     ensures { Placed out.old at (group_lines route (groups_of frame.now)) result out.new }
 {
-    let length = out.len();
-    if length < at {
-        return Wrote::Short;
-    }
-    let first = first_place(frame);
-    let Left::Enough(_) = left_after_groups(length - at, route, frame, first) else {
-        return Wrote::Short;
-    };
-    Wrote::Written(put_groups(out, at, route, frame, first))
+    let room = out.len().checked_sub(at)?;
+    let groups = Reader::over(frame);
+    left_after_groups(room, route, groups)?;
+    Some(put_groups(out, at, route, groups))
 }

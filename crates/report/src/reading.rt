@@ -5,111 +5,92 @@ ghost use Rattle.session_lines.specs.Lines.{ending_line};
 ghost use Rattle.text.specs.Line.{left_by, Placed};
 ghost use Rattle.text.specs.Put.{PutAt};
 
-use answer::{Acceptance, End, Ending, SlotEnd};
-use session_lines::ending::{ending_numbers, write_refused};
-use text::line::{left_after_plain, put_plain};
-use text::{Left, Wrote};
-use transport::Kind;
+use answer::Ending;
+use frame::refusal::Refusal;
+use session_lines::ending::{ending_line, ending_numbers, write_refused};
 
 // ---- One session that ended.
 
-fn left_after_ending(room: usize, ending: Ending) -> Left
+fn left_after_ending(room: usize, ending: Ending) -> Option<usize>
     ensures { result ≡ left_by room (length (ending_line ending)) }
 {
-    let kind = ending.kind;
     let fields = ending_numbers(ending);
-    match kind {
-        Kind::Rts => left_after_plain(room, b"send abort", &fields),
-        Kind::Bam => left_after_plain(room, b"ended", &fields),
-    }
+    ending_line(ending.kind, &fields).left_after(room)
 }
 
 fn put_ending(out: &mut [u8], at: usize, ending: Ending) -> usize
     requires { at + length (ending_line ending) ≤ length out.old }
     ensures { PutAt out.old at (ending_line ending) result out.new }
 {
-    let kind = ending.kind;
     let fields = ending_numbers(ending);
-    match kind {
-        Kind::Rts => put_plain(out, at, b"send abort", &fields),
-        Kind::Bam => put_plain(out, at, b"ended", &fields),
-    }
+    ending_line(ending.kind, &fields).put(out, at)
 }
 
 // ---- One slot.
 
-fn left_after_end(room: usize, end: End) -> Left
+#[tactic(auto, using(text::specs::Line::left_none))]
+fn left_after_end(room: usize, end: Option<Ending>) -> Option<usize>
     ensures { result ≡ left_by room (length (end_lines end)) }
 {
     match end {
-        End::Stays => Left::Enough(room),
-        End::Ended(ending) => left_after_ending(room, ending),
+        None => Some(room),
+        Some(ending) => left_after_ending(room, ending),
     }
 }
 
-fn put_end(out: &mut [u8], at: usize, end: End) -> usize
+#[tactic(auto, using(text::specs::Put::put_none))]
+fn put_end(out: &mut [u8], at: usize, end: Option<Ending>) -> usize
     requires { at + length (end_lines end) ≤ length out.old }
     ensures { PutAt out.old at (end_lines end) result out.new }
 {
     match end {
-        End::Stays => at,
-        End::Ended(ending) => put_ending(out, at, ending),
+        None => at,
+        Some(ending) => put_ending(out, at, ending),
     }
 }
 
 // ---- All slots.
 
-fn left_after_ends(room: usize, ends: [SlotEnd; 8]) -> Left
+fn left_after_ends(room: usize, ends: [Option<Ending>; 8]) -> Option<usize>
     ensures { result ≡ left_by room (length (ends_lines ends)) }
 {
     let mut left = room;
-    let mut i: usize = 0;
-    while i < 8 {
-        let slot = ends[i];
-        let end = slot.end;
-        let Left::Enough(behind) = left_after_end(left, end) else {
-            return Left::Short;
-        };
-        left = behind;
-        i = i + 1;
+    for i in 0..8 {
+        left = left_after_end(left, ends[i])?;
     }
-    Left::Enough(left)
+    Some(left)
 }
 
-fn put_ends(out: &mut [u8], at: usize, ends: [SlotEnd; 8]) -> usize
+fn put_ends(out: &mut [u8], at: usize, ends: [Option<Ending>; 8]) -> usize
     requires { at + length (ends_lines ends) ≤ length out.old }
     ensures { PutAt out.old at (ends_lines ends) result out.new }
 {
     let mut next = at;
-    let mut i: usize = 0;
-    while i < 8 {
-        let slot = ends[i];
-        let end = slot.end;
-        next = put_end(out, next, end);
-        i = i + 1;
+    for i in 0..8 {
+        next = put_end(out, next, ends[i]);
     }
     next
 }
 
-fn write_ends(out: &mut [u8], at: usize, ends: [SlotEnd; 8]) -> Wrote
+fn write_ends(out: &mut [u8], at: usize, ends: [Option<Ending>; 8]) -> Option<usize>
     ensures { Placed out.old at (ends_lines ends) result out.new }
 {
-    let length = out.len();
-    if length < at {
-        return Wrote::Short;
-    }
-    let Left::Enough(_) = left_after_ends(length - at, ends) else {
-        return Wrote::Short;
-    };
-    Wrote::Written(put_ends(out, at, ends))
+    let room = out.len().checked_sub(at)?;
+    left_after_ends(room, ends)?;
+    Some(put_ends(out, at, ends))
 }
 
 // The lines of a reading, by what it answers and the ending of each slot.
-pub fn write_reading(out: &mut [u8], at: usize, answer: Acceptance, ends: [SlotEnd; 8]) -> Wrote
+pub fn write_reading(
+    out: &mut [u8],
+    at: usize,
+    answer: Result<(), Refusal>,
+    ends: [Option<Ending>; 8],
+) -> Option<usize>
     ensures { Placed out.old at (reading_lines answer ends) result out.new }
 {
     match answer {
-        Acceptance::Accepted => write_ends(out, at, ends),
-        Acceptance::Refused(refusal) => write_refused(out, at, refusal),
+        Ok(()) => write_ends(out, at, ends),
+        Err(refusal) => write_refused(out, at, refusal),
     }
 }

@@ -2,21 +2,20 @@
 ghost use Rattle.report.specs.Lines.{end_line, bad_line};
 ghost use Rattle.text.specs.Line.{Placed};
 
-use text::Wrote;
-use text::line::write_plain;
+use text::line::Line;
 
 // All records were read.
-pub fn write_end(out: &mut [u8], at: usize, records: u64) -> Wrote
+pub fn write_end(out: &mut [u8], at: usize, records: u64) -> Option<usize>
     ensures { Placed out.old at (end_line records) result out.new }
 {
     let fields = [records];
-    write_plain(out, at, b"end", &fields)
+    Line::plain(b"end", &fields).write(out, at)
 }
 
 // A bad record starts at the offset.
-pub fn write_bad_record(out: &mut [u8], at: usize, offset: u64) -> Wrote
+pub fn write_bad_record(out: &mut [u8], at: usize, offset: u64) -> Option<usize>
     ensures { Placed out.old at (bad_line offset) result out.new }
 {
     let fields = [offset];
-    write_plain(out, at, b"bad record at", &fields)
+    Line::plain(b"bad record at", &fields).write(out, at)
 }

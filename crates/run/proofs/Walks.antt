@@ -2,25 +2,25 @@
 use Prim.Native.Nat.{ℕ, ◌+◌, ◌-◌, ◌<◌, ◌≤◌}
 use native.Mathlib.Omega.{arith}
 use mathlib.Core.Path.{◌≡◌, refl, sym, ap, subst, ◌∙◌}
-use mathlib.Core.Logic.{◌⊎◌, inl, inr}
-use mathlib.Core.Bool.{Bool, true, false, cond}
-use mathlib.Core.List.{List, [], ◌∷◌, ◌++◌}
+use mathlib.Core.Bool.{true, false, cond}
+use mathlib.Core.List.{List, [], ◌++◌}
 use lib.Dec.{leb}
-use lib.ListN.{length, take, drop, length-append, length-drop}
+use lib.ListN.{length, take, drop, length-append}
 use lib.Seq.{length-take-le}
 use borrow.Author.Tests.{leb-true, leb-false}
+use Rattle.std.specs.Prelude.{Result, Ok, Err}
 use Rattle.laws.specs.Bools.{by_test, cond_true, cond_false}
 use Rattle.text.specs.Line.{fits}
 use Rattle.text.specs.Put.{put, put_nil, PutAt, put_then}
-use Rattle.run.specs.Lines.{Receives, Done, Turn, took, over, cut, bad, turn_by, turn_at, State, after}
-use Rattle.run.specs.Steps.{in_bytes, Left, step_of}
+use Rattle.run.specs.Lines.{Done, Turn, took, over, cut, bad, turn_at}
+use Rattle.run.specs.Steps.{in_bytes, Left, took_to, step_of}
 use Rattle.run.specs.Cuts.{turn_within}
-use Rattle.run.specs.Goes.{turn_in, Goes, none, more, lying, is_open, record_room, why_of, Stops, Taken}
-use Rattle.run.specs.declared.step.Step.{Step}
-use Rattle.run.specs.declared.step.Step.TheVariants as step
+use Rattle.run.specs.Goes.{Goes, none, more, lying, is_open, record_room, why_of, Stops, Taken}
+use Rattle.run.specs.declared.step.Took.{Took}
+use Rattle.run.specs.declared.step.Untaken.{Untaken}
+use Rattle.run.specs.declared.step.Untaken.TheVariants as untaken
 use Rattle.run.specs.declared.piece.Stop.{Stop}
 use Rattle.run.specs.declared.piece.Stop.TheVariants as stop
-use Rattle.run.specs.declared.piece.Went.{Went}
 
 -- ---- a step that takes a record
 
@@ -32,63 +32,69 @@ pub record TookBy (o : List ℕ) (p : ℕ) (t : Turn (List ℕ)) (next q : ℕ) 
   pub lines : PutAt o p done.lines q o'
   pub room : p + length done.lines ≤ length o
 
+-- a record that was taken is not untaken
+not_taken : {A : Type 0} {k : Took} {z : Untaken} → ◌≡◌ {A = Result Took Untaken} (Ok k) (Err z) → A
+not_taken e = absurd (let z : ◌≡◌ {A = ℕ} 0 1 = cc in omega arith)
+
+-- the same reason, turned round
+same_reason : {y z : Untaken} → ◌≡◌ {A = Result Took Untaken} (Err z) (Err y) → y ≡ z
+same_reason e = cc
+
 module _ (b m o : List ℕ) (p : ℕ) where
-  took_of : (t : Turn (List ℕ)) {next q : ℕ} {b' m' o' : List ℕ} → ◌≡◌ {A = Left} (step.Took next q, (b', (m', o'))) (step_of t b m o p)
-      → TookBy o p t next q b' m' o'
-  took_of (took x n) {next} {q} {b'} {m'} {o'} e =
+  took_of : (t : Turn (List ℕ)) {k : Took} {b' m' o' : List ℕ} → ◌≡◌ {A = Left} (Ok k, (b', (m', o'))) (step_of t b m o p)
+      → TookBy o p t k.next k.put b' m' o'
+  took_of (took x n) {k} {b'} {m'} {o'} e =
       let l : List ℕ = x.lines in
-      let answer : step.Took next q ≡ cond (fits o p l) (step.Took n (p + length l)) step.Short = ap (λ (z : Left). z.0) e in
+      let answer : ◌≡◌ {A = Result Took Untaken} (Ok k) (cond (fits o p l) (Ok (took_to n (p + length l))) (Err untaken.Short)) = ap (λ (z : Left). z.0) e in
       by_test (fits o p l)
       (λ h.
-      let s : step.Took next q ≡ step.Took n (p + length l) = answer ∙ cond_true (fits o p l) _ _ h in
-      let same : n ≡ next = cc in
-      let place : q ≡ p + length l = cc in
+      let s : ◌≡◌ {A = Result Took Untaken} (Ok k) (Ok (took_to n (p + length l))) = answer ∙ cond_true (fits o p l) _ _ h in
+      let same : k ≡ took_to n (p + length l) = cc in
       record {
         done = x;
-        turn = ap (took x) same;
+        turn = ap (λ (z : Took). took x z.next) (sym same);
         receiver = ap (λ (z : Left). z.1.0) e;
         store = ap (λ (z : Left). z.1.1.0) e;
-        lines = record { place = place; bytes = ap (λ (z : Left). z.1.1.1) e ∙ cond_true (fits o p l) _ _ h };
+        lines = record { place = ap (λ (z : Took). z.put) same; bytes = ap (λ (z : Left). z.1.1.1) e ∙ cond_true (fits o p l) _ _ h };
         room = leb-true _ _ h;
       })
-      (λ h. let s : step.Took next q ≡ step.Short = answer ∙ cond_false (fits o p l) _ _ h in absurd (let z : ◌≡◌ {A = ℕ} 0 1 = cc in omega arith))
-  took_of over {next} {q} e = let s : step.Took next q ≡ step.End = ap (λ (z : Left). z.0) e in absurd (let z : ◌≡◌ {A = ℕ} 0 1 = cc in omega arith)
-  took_of cut {next} {q} e = let s : step.Took next q ≡ step.More = ap (λ (z : Left). z.0) e in absurd (let z : ◌≡◌ {A = ℕ} 0 1 = cc in omega arith)
-  took_of bad {next} {q} e = let s : step.Took next q ≡ step.Bad = ap (λ (z : Left). z.0) e in absurd (let z : ◌≡◌ {A = ℕ} 0 1 = cc in omega arith)
+      (λ h. not_taken (answer ∙ cond_false (fits o p l) _ _ h))
+  took_of over e = not_taken (ap (λ (z : Left). z.0) e)
+  took_of cut e = not_taken (ap (λ (z : Left). z.0) e)
+  took_of bad e = not_taken (ap (λ (z : Left). z.0) e)
 
-  pub took_by : {s : Step} {next q : ℕ} {b' m' o' : List ℕ} (t : Turn (List ℕ)) → s ≡ step.Took next q → ◌≡◌ {A = Left} (s, (b', (m', o'))) (step_of t b m o p)
-      → TookBy o p t next q b' m' o'
-  took_by {s} {next} {q} {b'} {m'} {o'} t e h = took_of t (subst (λ (z : Step). ◌≡◌ {A = Left} (z, (b', (m', o'))) (step_of t b m o p)) e h)
+  pub took_by : {s : Result Took Untaken} {k : Took} {b' m' o' : List ℕ} (t : Turn (List ℕ)) → s ≡ Ok k
+      → ◌≡◌ {A = Left} (s, (b', (m', o'))) (step_of t b m o p) → TookBy o p t k.next k.put b' m' o'
+  took_by {s} {k} {b'} {m'} {o'} t e h = took_of t (subst (λ (z : Result Took Untaken). ◌≡◌ {A = Left} (z, (b', (m', o'))) (step_of t b m o p)) e h)
 
 -- ---- a step that is the last
 
 module _ (d b m o : List ℕ) (k at p : ℕ) (enough : p + record_room ≤ length o) where
-  ends_by_lem : (t : Turn (List ℕ)) → turn_at in_bytes b m d at ≡ t → (s : Step) {b' m' o' : List ℕ} → ((x y : ℕ) → s ≡ step.Took x y → ⊥)
-      → ◌≡◌ {A = Left} (s, (b', (m', o'))) (step_of t b m o p) → Stops d (lying b m k at) (length o) p (why_of s) b' m' × (o' ≡ o)
-  ends_by_lem (took x n) f s {b'} {m'} {o'} h e =
+  abbrev Last : Untaken → List ℕ → List ℕ → Type 0
+  Last z b' m' = Stops d (lying b m k at) (length o) p (why_of z) b' m'
+
+  ends_by_lem : (t : Turn (List ℕ)) → turn_at in_bytes b m d at ≡ t → {z : Untaken} {b' m' o' : List ℕ}
+      → ◌≡◌ {A = Left} (Err z, (b', (m', o'))) (step_of t b m o p) → Last z b' m' × (o' ≡ o)
+  ends_by_lem (took x n) f {z} {b'} {m'} {o'} e =
       let l : List ℕ = x.lines in
-      let answer : s ≡ cond (fits o p l) (step.Took n (p + length l)) step.Short = ap (λ (z : Left). z.0) e in
+      let answer : ◌≡◌ {A = Result Took Untaken} (Err z) (cond (fits o p l) (Ok (took_to n (p + length l))) (Err untaken.Short)) = ap (λ (z : Left). z.0) e in
       by_test (fits o p l)
-      (λ g. absurd (h n (p + length l) (answer ∙ cond_true (fits o p l) _ _ g)))
-      (λ g.
-      let same : step.Short ≡ s = sym (answer ∙ cond_false (fits o p l) _ _ g) in (
-        subst (λ (z : Step). Stops d (lying b m k at) (length o) p (why_of z) b' m') same
+      (λ g. not_taken (sym (answer ∙ cond_true (fits o p l) _ _ g)))
+      (λ g. (
+        subst (λ (y : Untaken). Last y b' m') (same_reason (answer ∙ cond_false (fits o p l) _ _ g))
             (x, n, f, enough, leb-false _ _ g, ap (λ (z : Left). z.1.0) e, ap (λ (z : Left). z.1.1.0) e),
         ap (λ (z : Left). z.1.1.1) e ∙ cond_false (fits o p l) _ _ g,
       ))
-  ends_by_lem over f s {b'} {m'} h e = (
-    subst (λ (z : Step). Stops d (lying b m k at) (length o) p (why_of z) b' m') (sym (ap (λ (z : Left). z.0) e))
-        (ap is_open f, ap (λ (z : Left). z.1.0) e, ap (λ (z : Left). z.1.1.0) e),
+  ends_by_lem over f {z} {b'} {m'} e = (
+    subst (λ (y : Untaken). Last y b' m') (same_reason (ap (λ (z : Left). z.0) e)) (ap is_open f, ap (λ (z : Left). z.1.0) e, ap (λ (z : Left). z.1.1.0) e),
     ap (λ (z : Left). z.1.1.1) e,
   )
-  ends_by_lem cut f s {b'} {m'} h e = (
-    subst (λ (z : Step). Stops d (lying b m k at) (length o) p (why_of z) b' m') (sym (ap (λ (z : Left). z.0) e))
-        (ap is_open f, ap (λ (z : Left). z.1.0) e, ap (λ (z : Left). z.1.1.0) e),
+  ends_by_lem cut f {z} {b'} {m'} e = (
+    subst (λ (y : Untaken). Last y b' m') (same_reason (ap (λ (z : Left). z.0) e)) (ap is_open f, ap (λ (z : Left). z.1.0) e, ap (λ (z : Left). z.1.1.0) e),
     ap (λ (z : Left). z.1.1.1) e,
   )
-  ends_by_lem bad f s {b'} {m'} h e = (
-    subst (λ (z : Step). Stops d (lying b m k at) (length o) p (why_of z) b' m') (sym (ap (λ (z : Left). z.0) e))
-        (f, enough, ap (λ (z : Left). z.1.0) e, ap (λ (z : Left). z.1.1.0) e),
+  ends_by_lem bad f {z} {b'} {m'} e = (
+    subst (λ (y : Untaken). Last y b' m') (same_reason (ap (λ (z : Left). z.0) e)) (f, enough, ap (λ (z : Left). z.1.0) e, ap (λ (z : Left). z.1.1.0) e),
     ap (λ (z : Left). z.1.1.1) e,
   )
 
@@ -179,11 +185,13 @@ module _ (d : List ℕ) (k : ℕ) (b m o : List ℕ) (p : ℕ) where
           stops = (omega arith, refl, refl);
         }
 
-    pub walk_last : (s : Step) (r : Stop) (b₂ m₂ o₂ : List ℕ) → leb (q + record_room) (length o₁) ≡ true
-        → ((x y : ℕ) → s ≡ step.Took x y → ⊥) → ◌≡◌ {A = Left} (s, (b₂, (m₂, o₂))) (step_of (turn_at in_bytes b₁ m₁ d at) b₁ m₁ o₁ q) → r ≡ why_of s
+    pub walk_last : (s : Result Took Untaken) (y : Untaken) (r : Stop) (b₂ m₂ o₂ : List ℕ) → leb (q + record_room) (length o₁) ≡ true
+        → s ≡ Err y → ◌≡◌ {A = Left} (s, (b₂, (m₂, o₂))) (step_of (turn_at in_bytes b₁ m₁ d at) b₁ m₁ o₁ q) → r ≡ why_of y
         → Taken d k b m o p (record { at = at; put = q; records = good; stop = r }) b₂ m₂ o₂
-    walk_last s r b₂ m₂ o₂ e h g f =
-        let (stops, left) = ends_by_lem d b₁ m₁ o₁ good at q (leb-true _ _ e) (turn_at in_bytes b₁ m₁ d at) refl s h g in
+    walk_last s y r b₂ m₂ o₂ e h g f =
+        let (stops, left) =
+        ends_by_lem d b₁ m₁ o₁ good at q (leb-true _ _ e) (turn_at in_bytes b₁ m₁ d at) refl
+        (subst (λ (z : Result Took Untaken). ◌≡◌ {A = Left} (z, (b₂, (m₂, o₂))) (step_of (turn_at in_bytes b₁ m₁ d at) b₁ m₁ o₁ q)) h g) in
         record {
           lines = w.lines;
           to = lying b₁ m₁ good at;

@@ -1,41 +1,28 @@
 -- The functions of a run, over the loop: what is too long, the line of a bad record, and the bytes that are kept.
-use Prim.Native.Nat.{ℕ, zero, suc, ◌+◌, ◌-◌, ◌*◌, ◌/◌, ◌^◌, ◌<◌, ◌≤◌}
+use Rattle.std.specs.Prelude.{Option, ℕ}
+use Rattle.std.specs.Option.{unwrap_or}
+use mathlib.Core.Logic.{◌⊎◌, inl, inr}
+use Prim.Native.Nat.{ℕ, zero, suc, ◌+◌, ◌*◌, ◌/◌, ◌^◌, ◌<◌, ◌≤◌}
 use native.Mathlib.Omega.{arith}
 use mathlib.Core.Path.{◌≡◌, refl, sym, ap, subst, ◌∙◌}
-use mathlib.Core.Bool.{Bool, true, false, cond, ◌&&◌, ◌||◌, false≢true, true≢false}
+use mathlib.Core.Bool.{Bool, true, false, false≢true, true≢false}
 use mathlib.Core.List.{List, [], ◌∷◌, ◌++◌, append-nil}
-use lib.Dec.{ltb, leb, eqb}
-use lib.ListN.{length, get_or, set, drop, length-append, length-drop}
-use lib.Seq.{paste, get_or-drop, drop-paste}
-use borrow.Author.Tests.{le-leb, lt-leb, lt-ltb, le-ltb, leb-true, leb-false, ltb-true, ltb-false, eq-eqb, ne_eqb}
-use Rattle.laws.specs.Bools.{by_test, cond_true, cond_false, neither_left, neither_right}
-use Rattle.laws.specs.Choice.{then, else, each_of}
-use Rattle.laws.specs.Copy.{copy_turn}
+use lib.Dec.{ltb, leb}
+use lib.ListN.{length, length-append}
+use borrow.Author.Tests.{le-leb, leb-false, ltb-true, ltb-false}
+use Rattle.laws.specs.Bools.{by_test, cond_true, neither_left, neither_right}
 use Rattle.text.specs.Decimal.{decimal, width_of, length_decimal, width_small, width_large}
 use Rattle.text.specs.Line.{spaced, numbers, line_of, fits, Placed}
-use Rattle.text.specs.Put.{put, put_nil, PutAt, put_then}
-use Rattle.text.specs.declared.Wrote.{Wrote}
-use Rattle.text.specs.declared.Wrote.TheVariants as wrote
-use Rattle.report.specs.Lines.{end_line, bad_line, bad_word}
-use Rattle.run.specs.Lines.{State}
+use Rattle.text.specs.Put.{put_nil, put_none, PutAt, put_then}
+use Rattle.report.specs.Lines.{bad_line, bad_word}
 use Rattle.run.specs.Goes.{record_room, Stops, Taken}
-use Rattle.run.specs.Takes.{is_long, last_line, LastFits, Takes, nothing, TakesOr, final_line, kept_in}
+use Rattle.run.specs.Takes.{is_long, last_line, LastFits, Takes, nothing, TakesOr}
 use Rattle.run.specs.declared.piece.Stop.{Stop}
 use Rattle.run.specs.declared.piece.Stop.TheVariants as stop
 use Rattle.run.specs.declared.piece.Went.{Went}
 use Rattle.run.proofs.Walks.{put_inside}
 
 -- ---- a count that would pass 64 bits
-
-long_one : (k n : ℕ) → k < 2 ^ 64 → ltb (18446744073709551615 - k) n ≡ leb (2 ^ 64) (k + n)
-long_one k n h =
-    by_test (ltb (18446744073709551615 - k) n)
-    (λ e. let g : 18446744073709551615 - k < n = ltb-true _ _ e in e ∙ sym (le-leb (2 ^ 64) (k + n) (omega arith)))
-    (λ e. let g : n ≤ 18446744073709551615 - k = ltb-false _ _ e in e ∙ sym (lt-leb (2 ^ 64) (k + n) (omega arith)))
-
-pub long_both : (k o n : ℕ) → k < 2 ^ 64 → o < 2 ^ 64 → (ltb (18446744073709551615 - k) n || ltb (18446744073709551615 - o) n) ≡ is_long k o n
-long_both k o n h g =
-    ap (λ (t : Bool). t || ltb (18446744073709551615 - o) n) (long_one k n h) ∙ ap (λ (t : Bool). leb (2 ^ 64) (k + n) || t) (long_one o n g)
 
 module _ (k o n : ℕ) (e : is_long k o n ≡ false) where
   pub few_records : k + n < 2 ^ 64
@@ -70,38 +57,27 @@ bad_short place h =
     let l : length (bad_line place) ≡ 13 + length (numbers (place ∷ []) ++ (10 ∷ [])) = length-append bad_word (numbers (place ∷ []) ++ (10 ∷ [])) in
     omega arith
 
-module _ (o : List ℕ) (p : ℕ) (s : Stop) (place : ℕ) where
-  pub none_written : {x : Stop} → s ≡ x → last_line x place ≡ [] → PutAt o p (last_line s place) p o
-  none_written {x} e h =
-      subst (λ (l : List ℕ). PutAt o p l p o) (sym (ap (λ (z : Stop). last_line z place) e ∙ h))
-      (record { place = omega arith; bytes = sym (put_nil o p) })
+module _ (o : List ℕ) (p place : ℕ) where
+  pub none_written : (s : Stop) → (s ≡ stop.Bytes) ⊎ ((s ≡ stop.Room) ⊎ ((s ≡ stop.Lost) ⊎ (s ≡ stop.Long))) → PutAt o p (last_line s place) p o
+  none_written s (inl e) = rw e (put_none o p)
+  none_written s (inr (inl e)) = rw e (put_none o p)
+  none_written s (inr (inr (inl e))) = rw e (put_none o p)
+  none_written s (inr (inr (inr e))) = rw e (put_none o p)
 
-  module _ (w : Wrote) (o' : List ℕ) (e : s ≡ stop.Bad) (low : place < 2 ^ 64) (room : LastFits s (length o) p) (l : Placed o p (bad_line place) w o') where
-    bad_fits : fits o p (bad_line place) ≡ true
-    bad_fits =
-        let r : p + record_room ≤ length o = subst (λ (z : Stop). LastFits z (length o) p) e room in
+  module _ (low : place < 2 ^ 64) (w : Option ℕ) (o' : List ℕ) (l : Placed o p (bad_line place) w o') where
+    bad_fits : p + record_room ≤ length o → fits o p (bad_line place) ≡ true
+    bad_fits room =
         let h = bad_short place low in
         le-leb (p + length (bad_line place)) (length o) (omega arith)
 
-    pub bad_written : (next : ℕ) → w ≡ wrote.Written next → PutAt o p (last_line s place) next o'
-    bad_written next f =
-        let g : wrote.Written next ≡ wrote.Written (p + length (bad_line place)) = sym f ∙ l.answer ∙ cond_true _ _ _ bad_fits in
-        let same : next ≡ p + length (bad_line place) = cc in
-        subst (λ (z : Stop). PutAt o p (last_line z place) next o') (sym e)
-        (record { place = same; bytes = l.bytes ∙ cond_true _ _ _ bad_fits })
-
-    pub bad_not_short : {A : Type 0} → w ≡ wrote.Short → A
-    bad_not_short f =
-        let g : wrote.Short ≡ wrote.Written (p + length (bad_line place)) = sym f ∙ l.answer ∙ cond_true _ _ _ bad_fits in
-        absurd (let z : ◌≡◌ {A = ℕ} 0 1 = cc in omega arith)
-
--- ---- the input's end
-
-pub final_end : (n k place : ℕ) → n ≡ 0 → final_line n k place ≡ end_line k
-final_end n k place e = cond_true (eqb n 0) _ _ (eq-eqb n 0 e)
-
-pub final_cut : (n k place : ℕ) → (n ≡ 0 → ⊥) → final_line n k place ≡ bad_line place
-final_cut n k place e = cond_false (eqb n 0) _ _ (ne_eqb n 0 e)
+    pub bad_written : (s : Stop) → s ≡ stop.Bad → LastFits s (length o) p → PutAt o p (last_line s place) (unwrap_or w p) o'
+    bad_written stop.Bad e room =
+        let f = bad_fits room in
+        record {
+          place = ap (λ (x : Option ℕ). unwrap_or x p) (l.answer ∙ cond_true _ _ _ f);
+          bytes = l.bytes ∙ cond_true _ _ _ f;
+        }
+    bad_written s e room = absurd (let z : ◌≡◌ {A = ℕ} 0 1 = cc in omega arith)
 
 -- ---- the loop's answer, with the line of a bad record after it
 
@@ -158,37 +134,6 @@ module _ (d : List ℕ) (k offset : ℕ) (b m o : List ℕ) (p : ℕ) (w : Went)
         within = t.within;
         stops = t.stops;
       }
-
--- ---- the bytes that are kept
-
--- w is the window as it was, and v as it is: what is read next has not been written over
-pub move_turn : (v w : List ℕ) (from j : ℕ) → v ≡ paste w 0 (drop from w) j → from + j < length w → set v j (get_or v (from + j) 0) ≡ paste w 0 (drop from w) (j + 1)
-move_turn v w from j e h =
-    let z : 0 + j ≡ j = omega arith in
-    let swap : from + j ≡ j + from = omega arith in
-    let front : drop j v ≡ drop j w =
-    ap (drop j) e ∙ ap (λ (n : ℕ). drop n (paste w 0 (drop from w) j)) (sym z) ∙ drop-paste w 0 (drop from w) j (omega arith) (simp length-drop (omega arith)) ∙ ap (λ (n : ℕ). drop n w) z in
-    let same : get_or v (from + j) 0 ≡ get_or w (from + j) 0 =
-    ap (λ (n : ℕ). get_or v n 0) swap ∙ sym (get_or-drop j v from 0) ∙ ap (λ (l : List ℕ). get_or l from 0) front ∙ get_or-drop j w from 0 ∙ ap (λ (n : ℕ). get_or w n 0) (sym swap) in
-    ap (λ (n : ℕ). set v n (get_or v (from + j) 0)) (sym z)
-    ∙ ap (set v (0 + j)) same
-    ∙ copy_turn v w 0 w from j e (omega arith) h
-
-module _ (w : List ℕ) (from to : ℕ) where
-  inside : (leb from to && leb to (length w)) ≡ true → (from ≤ to) × (to ≤ length w)
-  inside e = let p = each_of (leb from to ∷ leb to (length w) ∷ []) e in (leb-true from to p.0, leb-true to (length w) p.1.0)
-
-  pub kept_order : (leb from to && leb to (length w)) ≡ true → from ≤ to
-  kept_order e = (inside e).0
-
-  pub kept_room : (leb from to && leb to (length w)) ≡ true → from + (to - from) ≤ length w
-  kept_room e = let (a, b) = inside e in omega arith
-
-  pub kept_moved : (leb from to && leb to (length w)) ≡ true → (v : List ℕ) → v ≡ paste w 0 (drop from w) (to - from) → (to - from, v) ≡ kept_in w from to
-  kept_moved e v h = then _ _ _ _ e (ap (λ (l : List ℕ). (to - from, l)) h)
-
-  pub kept_none : (leb from to && leb to (length w)) ≡ false → (0, w) ≡ kept_in w from to
-  kept_none e = else _ _ _ _ e refl
 
 -- ---- a trace that is too long, or not
 

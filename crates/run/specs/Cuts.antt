@@ -1,18 +1,20 @@
 -- However a trace is cut into pieces, the lines joined are those of the whole.
 use Prim.Native.Nat.{ℕ, zero, suc, ◌+◌, ◌-◌, ◌<◌, ◌≤◌}
-use Rattle.std.proofs.Common.{arith, sym, subst, ◌∙◌, length-append, length-drop, take-append-drop, length-take-le, eq-eqb, ne_eqb}
-use Rattle.std.specs.Prelude.{◌≡◌, refl, Bool, true, false, cond, eqb, length, take, drop}
+use Rattle.std.proofs.Common.{arith, sym, ◌∙◌, length-append, length-drop, take-append-drop, length-take-le, eq-eqb, ne_eqb}
+use Rattle.std.specs.Prelude.{◌≡◌, refl, true, false, eqb, length, take, drop, Option, Some, None, Result, Ok, Err}
 use Rattle.std.proofs.Math.Path.{ap}
 use Rattle.std.proofs.lemmas.Bool.{false≢true}
 use mathlib.Core.List.{List, [], ◌∷◌, ◌++◌, append_assoc, append-nil}
 use Rattle.std.proofs.Math.Seq.{drop-append-add}
 use Rattle.std.proofs.lemmas.List.{drop-append-le, take-append-le}
 use Rattle.laws.specs.Bools.{cond_true, cond_false}
-use Rattle.trace.specs.declared.record.RecordRead.{RecordRead}
-use Rattle.trace.specs.declared.record.RecordRead.TheVariants.{End, Reading, Frame, More, Bad}
+use Rattle.trace.specs.declared.Fault.{Fault}
+use Rattle.trace.specs.declared.Fault.TheVariants.{Cut}
+use Rattle.trace.specs.declared.record.Record.{Record}
+use Rattle.trace.specs.declared.record.Record.TheVariants.{Reading, Frame}
 use Rattle.trace.specs.Records.{record_at}
 use Rattle.trace.specs.Streams.{moved, undecided, record_moved, record_later}
-use Rattle.report.specs.Lines.{end_line, bad_line}
+use Rattle.report.specs.Lines.{bad_line}
 use Rattle.run.specs.Lines.{Receives, Done, framed, Turn, took, over, cut, bad, turn_by, turn_at, State, after, on_turn, lines_from, lines_in}
 use Rattle.run.specs.Goes.{turn_in, Goes, none, more, is_open}
 use Rattle.run.specs.Takes.{final_line}
@@ -32,12 +34,12 @@ abbrev pub further : {R : Type 0} → ℕ → State R → State R
 further k s = record { receiver = s.receiver; store = s.store; records = s.records; place = k + s.place }
 
 module _ {R : Type 0} (M : Receives R) (r : R) (m d : List ℕ) where
-  open_same : (q : RecordRead) → undecided q ≡ is_open (turn_by M r m d q)
-  open_same (Reading value next) = refl
-  open_same (Frame id start n next) = refl
-  open_same End = refl
-  open_same More = refl
-  open_same (Bad f) = refl
+  open_same : (q : Result (Option Record) Fault) → undecided q ≡ is_open (turn_by M r m d q)
+  open_same (Ok (Some (Reading value next))) = refl
+  open_same (Ok (Some (Frame id start n next))) = refl
+  open_same (Ok None) = refl
+  open_same (Err Cut) = refl
+  open_same (Err f) = refl
 
   -- a frame's bytes are the same in the whole
   frame_same : (xs ys : List ℕ) (start n : ℕ) → start + n ≤ length d → take n (drop (length xs + start) (xs ++ (d ++ ys))) ≡ take n (drop start d)
@@ -45,14 +47,14 @@ module _ {R : Type 0} (M : Receives R) (r : R) (m d : List ℕ) where
       ap (take n) (drop-append-add xs (d ++ ys) start ∙ drop-append-le start d ys (omega arith))
       ∙ take-append-le n (drop start d) ys (simp length-drop (omega arith))
 
-  turn_moved : (xs ys : List ℕ) (at : ℕ) (q : RecordRead) → Within d at q
+  turn_moved : (xs ys : List ℕ) (at : ℕ) (q : Result (Option Record) Fault) → Within d at q
       → turn_by M r m (xs ++ (d ++ ys)) (moved (length xs) q) ≡ shifted (length xs) (turn_by M r m d q)
-  turn_moved xs ys at (Reading value next) w = refl
-  turn_moved xs ys at (Frame id start n next) (low, same, high, few) =
+  turn_moved xs ys at (Ok (Some (Reading value next))) w = refl
+  turn_moved xs ys at (Ok (Some (Frame id start n next))) (low, same, high, few) =
       ap (λ (f : List ℕ). took (framed f (M.frame r id f m)) (length xs + next)) (frame_same xs ys start n (omega arith))
-  turn_moved xs ys at End w = refl
-  turn_moved xs ys at More w = refl
-  turn_moved xs ys at (Bad f) w = refl
+  turn_moved xs ys at (Ok None) w = refl
+  turn_moved xs ys at (Err Cut) w = refl
+  turn_moved xs ys at (Err f) w = refl
 
   -- what is decided stays so, whatever is before and whatever follows
   turn_whole : (xs ys : List ℕ) (at : ℕ) → is_open (turn_at M r m d at) ≡ false
@@ -73,12 +75,12 @@ module _ {R : Type 0} (M : Receives R) (r : R) (m d : List ℕ) where
 -- ---- a record that is taken ends after its place, and an open end is where the bytes end
 
 module _ {R : Type 0} (M : Receives R) (r : R) (m d : List ℕ) (at : ℕ) where
-  turn_by_lem : {x : Done R} {next : ℕ} (q : RecordRead) → Within d at q → turn_by M r m d q ≡ took x next → (at < next) × (next ≤ length d)
-  turn_by_lem {x} {next} (Reading value n) (low, high) e = let s : n ≡ next = cc in (omega arith, omega arith)
-  turn_by_lem {x} {next} (Frame id start k n) (low, same, high, few) e = let s : n ≡ next = cc in (omega arith, omega arith)
-  turn_by_lem End w e = absurd (let z : ◌≡◌ {A = ℕ} 0 1 = cc in omega arith)
-  turn_by_lem More w e = absurd (let z : ◌≡◌ {A = ℕ} 0 1 = cc in omega arith)
-  turn_by_lem (Bad f) w e = absurd (let z : ◌≡◌ {A = ℕ} 0 1 = cc in omega arith)
+  turn_by_lem : {x : Done R} {next : ℕ} (q : Result (Option Record) Fault) → Within d at q → turn_by M r m d q ≡ took x next → (at < next) × (next ≤ length d)
+  turn_by_lem {x} {next} (Ok (Some (Reading value n))) (low, high) e = let s : n ≡ next = cc in (omega arith, omega arith)
+  turn_by_lem {x} {next} (Ok (Some (Frame id start k n))) (low, same, high, few) e = let s : n ≡ next = cc in (omega arith, omega arith)
+  turn_by_lem (Ok None) w e = absurd (let z : ◌≡◌ {A = ℕ} 0 1 = cc in omega arith)
+  turn_by_lem (Err Cut) w e = absurd (let z : ◌≡◌ {A = ℕ} 0 1 = cc in omega arith)
+  turn_by_lem (Err f) w e = absurd (let z : ◌≡◌ {A = ℕ} 0 1 = cc in omega arith)
 
   pub turn_within : {x : Done R} {next : ℕ} → turn_at M r m d at ≡ took x next → (at < next) × (next ≤ length d)
   unfolding turn_at
@@ -147,14 +149,14 @@ goes_inside M d (more {l} {t} x next g e) h = (turn_within M t.receiver t.store 
 -- ---- the input's end
 
 module _ {R : Type 0} (M : Receives R) (xs d : List ℕ) (t : State R) where
-  at_end : (q : RecordRead) → Within d t.place q → is_open (turn_by M t.receiver t.store d q) ≡ true
+  at_end : (q : Result (Option Record) Fault) → Within d t.place q → is_open (turn_by M t.receiver t.store d q) ≡ true
       → (f : State R → List ℕ) → on_turn (further (length xs) t) (shifted (length xs) (turn_by M t.receiver t.store d q)) f
       ≡ final_line (length d - t.place) t.records (length xs + t.place)
-  at_end End w e f = let z : length d - t.place ≡ 0 = omega arith in sym (cond_true (eqb (length d - t.place) 0) _ _ (eq-eqb _ _ z))
-  at_end More w e f = sym (cond_false (eqb (length d - t.place) 0) _ _ (ne_eqb (length d - t.place) 0 (λ (z : length d - t.place ≡ 0). omega arith)))
-  at_end (Reading value next) w e f = absurd (false≢true e)
-  at_end (Frame id start n next) w e f = absurd (false≢true e)
-  at_end (Bad g) w e f = absurd (false≢true e)
+  at_end (Ok None) w e f = let z : length d - t.place ≡ 0 = omega arith in sym (cond_true (eqb (length d - t.place) 0) _ _ (eq-eqb _ _ z))
+  at_end (Err Cut) w e f = sym (cond_false (eqb (length d - t.place) 0) _ _ (ne_eqb (length d - t.place) 0 (λ (z : length d - t.place ≡ 0). omega arith)))
+  at_end (Ok (Some (Reading value next))) w e f = absurd (false≢true e)
+  at_end (Ok (Some (Frame id start n next))) w e f = absurd (false≢true e)
+  at_end (Err g) w e f = absurd (false≢true e)
 
   open_whole : is_open (turn_in M d t) ≡ true
       → lines_in M (further (length xs) t) (xs ++ (d ++ [])) ≡ final_line (length d - t.place) t.records (length xs + t.place)

@@ -3,8 +3,8 @@ use Rattle.std.specs.Prelude.{ℕ, ◌+◌, ◌<◌, ◌≤◌, ◌≡◌, Bool,
 use Rattle.text.specs.Put.{PutAt}
 use Rattle.run.specs.Lines.{Receives, Done, Turn, took, over, cut, bad, turn_at, State, after}
 use Rattle.run.specs.Steps.{in_bytes}
-use Rattle.run.specs.declared.step.Step.{Step}
-use Rattle.run.specs.declared.step.Step.TheVariants as step
+use Rattle.run.specs.declared.step.Untaken.{Untaken}
+use Rattle.run.specs.declared.step.Untaken.TheVariants as untaken
 use Rattle.run.specs.declared.piece.Stop.{Stop}
 use Rattle.run.specs.declared.piece.Stop.TheVariants as stop
 use Rattle.run.specs.declared.piece.Went.{Went}
@@ -34,12 +34,11 @@ abbrev pub record_room : ℕ
 record_room = 20000
 
 -- why a step is the last
-abbrev pub why_of : Step → Stop
-why_of (step.Took next put) = stop.Room
-why_of step.End = stop.Bytes
-why_of step.More = stop.Bytes
-why_of step.Bad = stop.Bad
-why_of step.Short = stop.Lost
+abbrev pub why_of : Untaken → Stop
+why_of untaken.End = stop.Bytes
+why_of untaken.More = stop.Bytes
+why_of untaken.Bad = stop.Bad
+why_of untaken.Short = stop.Lost
 
 -- Why it stops at t, where the lines end at the place q of a buffer of n bytes. A record that is lost was taken, and its lines were too many
 abbrev pub Stops : List ℕ → State (List ℕ) → ℕ → ℕ → Stop → List ℕ → List ℕ → Type 0

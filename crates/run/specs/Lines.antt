@@ -1,30 +1,32 @@
 -- The lines of a trace: 01, "Program". The receiver is opened with own address 33, both limits 1,250 and reading 0; each record gives its lines;
 -- last comes the count of the records, or the place of a record that is bad or cut off, and nothing after it.
-use Rattle.std.specs.Prelude.{ℕ, zero, suc, ◌+◌, List, [], ◌++◌, length, take, drop, replicate}
+use Rattle.std.specs.Prelude.{ℕ, zero, suc, ◌+◌, List, [], ◌++◌, length, take, drop, replicate, Option, Some, None, Result, Ok, Err, ⊤}
 use Rattle.frame.specs.declared.Address.{Address}
 use Rattle.answer.specs.declared.Answer.{Answer}
-use Rattle.answer.specs.declared.Acceptance.{Acceptance}
-use Rattle.answer.specs.declared.SlotEnd.{SlotEnd}
 use Rattle.answer.specs.Places.{place_of, place_bytes}
-use Rattle.trace.specs.declared.record.RecordRead.{RecordRead}
-use Rattle.trace.specs.declared.record.RecordRead.TheVariants.{End, Reading, Frame, More, Bad}
+use Rattle.trace.specs.declared.Fault.{Fault}
+use Rattle.trace.specs.declared.Fault.TheVariants.{Cut}
+use Rattle.trace.specs.declared.record.Record.{Record}
+use Rattle.trace.specs.declared.record.Record.TheVariants.{Reading, Frame}
 use Rattle.trace.specs.Records.{record_at}
 use Rattle.progress.specs.declared.wait.IdleLimits.{IdleLimits}
 use Rattle.receiver.specs.declared.Receiver.{Receiver}
 use Rattle.receiver.specs.Bounds.{opened}
 use Rattle.receiver.specs.Calls.{Outcome, Elapsed, frame_all, reading_step}
 use Rattle.report.specs.Lines.{answer_lines, reading_lines, end_line, bad_line}
+use Rattle.answer.specs.declared.Ending.{Ending}
+use Rattle.frame.specs.declared.refusal.Refusal.{Refusal}
 
 -- ---- a receiver, whose record is an R: what a frame and what a reading make of it, beside the store
 
 pub record Receives (R : Type 0) : Type 0 where
   pub frame : R → ℕ → List ℕ → List ℕ → Answer × (R × List ℕ)
-  pub reading : R → ℕ → List ℕ → (Acceptance × List SlotEnd) × R
+  pub reading : R → ℕ → List ℕ → ((Result ⊤ Refusal) × List (Option Ending)) × R
 
 abbrev pub framed_by : Outcome → Answer × (Receiver × List ℕ)
 framed_by o = (o.0.answer, (o.0.next, o.1))
 
-abbrev pub read_by : Elapsed → (Acceptance × List SlotEnd) × Receiver
+abbrev pub read_by : Elapsed → ((Result ⊤ Refusal) × List (Option Ending)) × Receiver
 read_by x = ((x.answer, x.ends), x.next)
 
 -- the receiver of 01
@@ -47,7 +49,7 @@ abbrev pub framed : {R : Type 0} → List ℕ → Answer × (R × List ℕ) → 
 framed d x =
     record { lines = answer_lines d x.0 (place_bytes (place_of x.0) d x.1.1); receiver = x.1.0; store = x.1.1 }
 
-abbrev pub elapsed : {R : Type 0} → List ℕ → (Acceptance × List SlotEnd) × R → Done R
+abbrev pub elapsed : {R : Type 0} → List ℕ → ((Result ⊤ Refusal) × List (Option Ending)) × R → Done R
 elapsed m x = record { lines = reading_lines x.0.0 x.0.1; receiver = x.1; store = m }
 
 -- what is at a place of the trace: a record, with the place after it; the trace's end; a record cut off by it; no record
@@ -57,12 +59,12 @@ pub data Turn (R : Type 0) : Type 0 where
   cut : Turn R
   bad : Turn R
 
-abbrev pub turn_by : {R : Type 0} → Receives R → R → List ℕ → List ℕ → RecordRead → Turn R
-turn_by M r m d End = over
-turn_by M r m d (Reading t next) = took (elapsed m (M.reading r t m)) next
-turn_by M r m d (Frame id start n next) = took (framed (take n (drop start d)) (M.frame r id (take n (drop start d)) m)) next
-turn_by M r m d More = cut
-turn_by M r m d (Bad f) = bad
+abbrev pub turn_by : {R : Type 0} → Receives R → R → List ℕ → List ℕ → Result (Option Record) Fault → Turn R
+turn_by M r m d (Ok None) = over
+turn_by M r m d (Ok (Some (Reading t next))) = took (elapsed m (M.reading r t m)) next
+turn_by M r m d (Ok (Some (Frame id start n next))) = took (framed (take n (drop start d)) (M.frame r id (take n (drop start d)) m)) next
+turn_by M r m d (Err Cut) = cut
+turn_by M r m d (Err f) = bad
 
 unfoldable pub turn_at : {R : Type 0} → Receives R → R → List ℕ → List ℕ → ℕ → Turn R
 turn_at M r m d at = turn_by M r m d (record_at d at)

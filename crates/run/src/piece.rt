@@ -2,7 +2,7 @@
 ghost use Rattle.std.specs.Prelude.{◌+◌, ◌<◌, ◌^◌, ◌≡◌, leb, length};
 ghost use Rattle.run.specs.Goes.{record_room, why_of, Taken};
 
-use super::step::{Step, take_record};
+use super::step::{Took, Untaken, take_record};
 
 // The room that is kept free for the lines of one record: the longest is a message of 4,096 bytes.
 pub const ROOM: usize = 20000;
@@ -22,6 +22,18 @@ pub enum Stop {
     Long,
 }
 
+impl From<Untaken> for Stop {
+    ghost from_gives = { λ untaken stop. stop ≡ why_of untaken };
+
+    fn from(untaken: Untaken) -> Stop {
+        match untaken {
+            Untaken::End | Untaken::More => Stop::Bytes,
+            Untaken::Bad => Stop::Bad,
+            Untaken::Short => Stop::Lost,
+        }
+    }
+}
+
 // How far it went.
 #[derive(Clone, Copy)]
 pub struct Went {
@@ -37,25 +49,10 @@ pub struct Went {
 fn has_room(size: usize, put: usize) -> bool
     ensures { result ≡ leb (put + record_room) size }
 {
-    if size < put {
-        return false;
-    }
-    ROOM <= size - put
+    ROOM <= size.saturating_sub(put)
 }
 
-// Why a step that takes no record, or loses its lines, is the last.
-fn why(step: Step) -> Stop
-    ensures { result ≡ why_of step }
-{
-    match step {
-        Step::Took { next: _, put: _ } => Stop::Room,
-        Step::End => Stop::Bytes,
-        Step::More => Stop::Bytes,
-        Step::Bad => Stop::Bad,
-        Step::Short => Stop::Lost,
-    }
-}
-
+#[tactic(auto, using(crate::proofs::Walks::walk_start))]
 pub(crate) fn take_records(
     window: &[u8],
     records: u64,
@@ -72,21 +69,24 @@ pub(crate) fn take_records(
     let mut end = put;
     let mut good = records;
     while has_room(lines.len(), end) {
-        let step = take_record(window, at, receiver, store, lines, end);
-        let Step::Took { next, put } = step else {
-            return Went {
-                at: at,
-                put: end,
-                records: good,
-                stop: why(step),
-            };
-        };
-        at = next;
-        end = put;
-        good = good + 1;
+        match take_record(window, at, receiver, store, lines, end) {
+            Ok(Took { next, put }) => {
+                at = next;
+                end = put;
+                good = good + 1;
+            }
+            Err(untaken) => {
+                return Went {
+                    at,
+                    put: end,
+                    records: good,
+                    stop: Stop::from(untaken),
+                };
+            }
+        }
     }
     Went {
-        at: at,
+        at,
         put: end,
         records: good,
         stop: Stop::Room,

@@ -10,14 +10,12 @@ use answer::place::{bytes_of, cut, place_of};
 use engine::{call, reading};
 use report::answer_lines::write_answer;
 use report::reading::write_reading;
-use text::Wrote;
-use trace::record;
-use trace::record::RecordRead;
+use trace::record::Record;
+use trace::{Fault, record};
 
-#[derive(Clone, Copy)]
-pub enum Step {
-    // the place after the record, and the place after its lines
-    Took { next: usize, put: usize },
+// Why no record is taken, or its lines are lost.
+#[derive(Clone, Copy, PartialEq, Eq)]
+pub enum Untaken {
     // no byte is at the place
     End,
     // the bytes end inside the record
@@ -27,6 +25,15 @@ pub enum Step {
     Short,
 }
 
+// A record that was taken.
+#[derive(Clone, Copy)]
+pub struct Took {
+    // the place after the record, and the place after its lines
+    pub next: usize,
+    pub put: usize,
+}
+
+#[tactic(auto, using(crate::proofs::Records::made_frame))]
 fn take_frame(
     receiver: &mut [u8],
     store: &mut [u8],
@@ -34,7 +41,7 @@ fn take_frame(
     frame: &[u8],
     lines: &mut [u8],
     put: usize,
-) -> Wrote
+) -> Option<usize>
     ensures { ((receiver.new, store.new) ≡ (frame_in receiver.old id frame.now store.old).1)
         × Placed lines.old put
         (framed frame.now (frame_in receiver.old id frame.now store.old)).lines result lines.new }
@@ -44,7 +51,14 @@ fn take_frame(
     write_answer(lines, put, frame, answer, bytes)
 }
 
-fn take_reading(receiver: &mut [u8], store: &[u8], t: u32, lines: &mut [u8], put: usize) -> Wrote
+#[tactic(auto, using(crate::proofs::Records::made_reading))]
+fn take_reading(
+    receiver: &mut [u8],
+    store: &[u8],
+    t: u32,
+    lines: &mut [u8],
+    put: usize,
+) -> Option<usize>
     ensures { (receiver.new ≡ (reading_in receiver.old t store.now).1)
         × Placed lines.old put
         (elapsed store.now (read_in_bytes (reading_in receiver.old t store.now))).lines result lines.new }
@@ -55,16 +69,15 @@ fn take_reading(receiver: &mut [u8], store: &[u8], t: u32, lines: &mut [u8], put
     write_reading(lines, put, answer, ends)
 }
 
-fn behind(w: Wrote, next: usize) -> Step
+fn behind(w: Option<usize>, next: usize) -> Result<Took, Untaken>
     ensures { result ≡ stepped w next }
 {
-    match w {
-        Wrote::Written(put) => Step::Took { next, put },
-        Wrote::Short => Step::Short,
-    }
+    let put = w.ok_or(Untaken::Short)?;
+    Ok(Took { next, put })
 }
 
 // The record at a place of the bytes that are there.
+#[tactic(auto, using(crate::proofs::Records::by_reading), unfolding(crate::specs::Lines::turn_at))]
 pub fn take_record(
     window: &[u8],
     at: usize,
@@ -72,19 +85,22 @@ pub fn take_record(
     store: &mut [u8],
     lines: &mut [u8],
     put: usize,
-) -> Step
+) -> Result<Took, Untaken>
     ensures { (result, (receiver.new, (store.new, lines.new)))
         ≡ step_of (turn_at in_bytes receiver.old store.old window.now at) receiver.old store.old
         lines.old put }
 {
-    match record::read(window, at) {
-        RecordRead::End => Step::End,
-        RecordRead::More => Step::More,
-        RecordRead::Bad(_) => Step::Bad,
-        RecordRead::Reading { value, next } => {
+    let record = match record::read(window, at) {
+        Ok(Some(record)) => record,
+        Ok(None) => return Err(Untaken::End),
+        Err(Fault::Cut) => return Err(Untaken::More),
+        Err(_) => return Err(Untaken::Bad),
+    };
+    match record {
+        Record::Reading { value, next } => {
             behind(take_reading(receiver, store, value, lines, put), next)
         }
-        RecordRead::Frame {
+        Record::Frame {
             identifier,
             start,
             len,

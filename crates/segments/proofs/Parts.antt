@@ -1,52 +1,55 @@
 -- The record's two numbers, and the one number that the model reads: what each part says of the whole.
 use Prim.Native.Nat.{ℕ, ◌+◌, ◌-◌, ◌*◌, ◌/◌, ◌%◌, ◌^◌, ◌≤◌, ◌<◌, min}
 use mathlib.Core.Path.{◌≡◌, refl, sym, ap, ◌∙◌}
-use mathlib.Core.Bool.{Bool, true, false, cond, ◌&&◌}
-use native.Mathlib.Nat.{div-eq_of_lt, mod-lt}
+use mathlib.Core.Bool.{Bool, true, false, ◌&&◌}
+use native.Mathlib.Nat.{div-eq_of_lt, mod-lt, one-mul}
+use mathlib.Mathlib.Data.Bool.Basic.{and_elim_left, and_elim_right}
 use native.Mathlib.Omega.{arith}
-use lib.Dec.{eqb, leb, ltb}
+use Rattle.std.specs.Cmp.{both_ways}
+use lib.Dec.{eqb, leb, ltb, lit<}
 use lib.Arith.{digits_lt}
-use lib.Pow.{pow-add, pow_mono, pow_pos, mod-pow-add, high, low, split}
+use lib.Pow.{pow-add, pow_mono, pow_pos, mod-pow-add, high, low, split, shl_exact}
 use lib.Bits.{bit_and, bit_or, or_add_and, and_le_l, and_le_r}
 use lib.Count.{ones, ones_cat}
-use borrow.Author.Tests.{eqb-true, eqb-false, eq-eqb, ne_eqb, le-leb, lt-leb, leb-true, leb-false, ltb-true, ltb-false, lt-ltb, le-ltb}
+use borrow.Author.Tests.{eqb-true, eqb-false, eq-eqb, ne_eqb, le-leb, lt-leb, leb-true, leb-false, ltb-true, ltb-false, lt-ltb}
 use Rattle.segments.specs.declared.Segments.{Segments}
 use Rattle.segments.specs.Digits.{digit, digit_lt, digit_below, digit_above, mod_below, added_lt, LowestFree}
-use Rattle.segments.specs.Model.{value, is_in, put_in, missing_of, none_past, agrees}
-use Rattle.segments.specs.Laws.{and_left, and_right, ones_none, number_of_lem, put_new, in_digit, in_set, in_free, in_past_69, missing_ones, missing_ones_past, missing_ones_all, IsFirst}
+use Rattle.segments.specs.Model.{value, is_in, missing_of, none_past, agrees}
+use Rattle.segments.specs.Laws.{ones_none, number_of_lem, in_digit, in_set, in_free, in_past_69, in_no_number, missing_ones, missing_ones_past, missing_ones_all, IsFirst}
 
 abbrev pub made : ℕ → ℕ → Segments
 made l h = record { low = l; high = h }
-
--- two tests that say the same
-same_test : (a b : Bool) → (a ≡ true → b ≡ true) → (b ≡ true → a ≡ true) → a ≡ b
-same_test true b f g = sym (f refl)
-same_test false true f g = g refl
-same_test false false f g = refl
 
 and_of : (a b : Bool) → a ≡ true → b ≡ true → (a && b) ≡ true
 and_of a b p q = ap (λ (t : Bool). t && b) p ∙ q
 
 -- two numbers are 0 just where their `|` is
-pub either_zero : (a b x : ℕ) → x ≡ bit_or a b → eqb x 0 ≡ (eqb a 0 && eqb b 0)
-either_zero a b x e =
-    let sum : x + bit_and a b ≡ a + b = ap (λ (y : ℕ). y + bit_and a b) e ∙ or_add_and a b in
+either_zero : (a b : ℕ) → eqb (bit_or a b) 0 ≡ (eqb a 0 && eqb b 0)
+either_zero a b =
+    let sum : bit_or a b + bit_and a b ≡ a + b = or_add_and a b in
     let l : bit_and a b ≤ a = and_le_l a b in
     let r : bit_and a b ≤ b = and_le_r a b in
-    same_test (eqb x 0) (eqb a 0 && eqb b 0)
+    both_ways (eqb (bit_or a b) 0) (eqb a 0 && eqb b 0)
     (λ p.
-    let z : x ≡ 0 = eqb-true x 0 p in
+    let z : bit_or a b ≡ 0 = eqb-true (bit_or a b) 0 p in
     and_of (eqb a 0) (eqb b 0) (eq-eqb a 0 (omega arith)) (eq-eqb b 0 (omega arith)))
     (λ p.
-    let za : a ≡ 0 = eqb-true a 0 (and_left (eqb a 0) (eqb b 0) p) in
-    let zb : b ≡ 0 = eqb-true b 0 (and_right (eqb a 0) (eqb b 0) p) in
-    eq-eqb x 0 (omega arith))
+    let za : a ≡ 0 = eqb-true a 0 (and_elim_left (eqb a 0) (eqb b 0) p) in
+    let zb : b ≡ 0 = eqb-true b 0 (and_elim_right (eqb a 0) (eqb b 0) p) in
+    eq-eqb (bit_or a b) 0 (omega arith))
+
+-- `1 << k` in a number of w bits
+pub bit : (k w : ℕ) → k < w → 1 * 2 ^ k % 2 ^ w ≡ 2 ^ k
+bit k w h = shl_exact 1 k w (lit< tt) (omega arith) ∙ one-mul (2 ^ k)
 
 zero_quotient : (x k : ℕ) → x / 2 ^ k ≡ 0 → x < 2 ^ k
 zero_quotient x k e =
     let whole : x / 2 ^ k * 2 ^ k + x % 2 ^ k ≡ x = split x k in
     let small : 0 * 2 ^ k + x % 2 ^ k ≡ x = ap (λ (q : ℕ). q * 2 ^ k + x % 2 ^ k) (sym e) ∙ whole in
     omega (arith, mod-lt x (pow_pos k))
+
+pub in_zero : (s : Segments) (n : ℕ) → n < 1 → is_in s n ≡ false
+in_zero s n h = let zero : n ≡ 0 = omega arith in ap (is_in s) zero ∙ in_no_number s 0 refl
 
 module _ (s : Segments) (fits : s.low < 2 ^ 64) where
   pub in_low : (n : ℕ) → 1 ≤ n → n ≤ 64 → is_in s n ≡ eqb (digit s.low (n - 1)) 1
@@ -79,27 +82,14 @@ module _ (s : Segments) (fits : s.low < 2 ^ 64) where
   pub fits_high : (n p : ℕ) → 64 < n → n ≤ 69 → is_in s n ≡ false → p ≡ 2 ^ (n - 65) → s.high < 2 ^ 8 → s.high + p < 2 ^ 8
   fits_high n p a b e q h = rw q (added_lt s.high (n - 65) (free_high n a b e) 8 (omega arith) h)
 
-  pub put_low : (n p : ℕ) → 1 ≤ n → n ≤ 64 → is_in s n ≡ false → p ≡ 2 ^ (n - 1) → made (s.low + p) s.high ≡ put_in s n
-  put_low n p a b e q =
-      ap (λ (x : ℕ). made (s.low + x) s.high) q
-      ∙ ap (λ (t : Bool). cond t (made (s.low + 2 ^ (n - 1)) s.high) (made s.low (s.high + 2 ^ (n - 1 - 64)))) (sym (lt-ltb (n - 1) 64 (omega arith)))
-      ∙ sym (put_new s n (number_of_lem n a (omega arith)) e)
-
-  pub put_high : (n p : ℕ) → 64 < n → n ≤ 69 → is_in s n ≡ false → p ≡ 2 ^ (n - 65) → made s.low (s.high + p) ≡ put_in s n
-  put_high n p a b e q =
-      let same : n - 65 ≡ n - 1 - 64 = omega arith in
-      ap (λ (x : ℕ). made s.low (s.high + x)) (q ∙ ap (λ (x : ℕ). 2 ^ x) same)
-      ∙ ap (λ (t : Bool). cond t (made (s.low + 2 ^ (n - 1)) s.high) (made s.low (s.high + 2 ^ (n - 1 - 64)))) (sym (le-ltb (n - 1) 64 (omega arith)))
-      ∙ sym (put_new s n (number_of_lem n (omega arith) b) e)
-
   -- ---- nothing past c
 
-  pub past_low : (c : ℕ) → c < 64 → (eqb s.high 0 && eqb (s.low / 2 ^ c) 0) ≡ none_past s c
+  past_low : (c : ℕ) → c < 64 → (eqb s.high 0 && eqb (s.low / 2 ^ c) 0) ≡ none_past s c
   past_low c b =
-      same_test (eqb s.high 0 && eqb (s.low / 2 ^ c) 0) (none_past s c)
+      both_ways (eqb s.high 0 && eqb (s.low / 2 ^ c) 0) (none_past s c)
       (λ e.
-      let h : s.high ≡ 0 = eqb-true s.high 0 (and_left (eqb s.high 0) (eqb (s.low / 2 ^ c) 0) e) in
-      let l : s.low < 2 ^ c = zero_quotient s.low c (eqb-true (s.low / 2 ^ c) 0 (and_right (eqb s.high 0) (eqb (s.low / 2 ^ c) 0) e)) in
+      let h : s.high ≡ 0 = eqb-true s.high 0 (and_elim_left (eqb s.high 0) (eqb (s.low / 2 ^ c) 0) e) in
+      let l : s.low < 2 ^ c = zero_quotient s.low c (eqb-true (s.low / 2 ^ c) 0 (and_elim_right (eqb s.high 0) (eqb (s.low / 2 ^ c) 0) e)) in
       lt-ltb (value s) (2 ^ c) (omega arith))
       (λ e.
       let v : value s < 2 ^ c = ltb-true (value s) (2 ^ c) e in
@@ -108,10 +98,20 @@ module _ (s : Segments) (fits : s.low < 2 ^ 64) where
       let l : s.low < 2 ^ c = omega arith in
       and_of (eqb s.high 0) (eqb (s.low / 2 ^ c) 0) (eq-eqb s.high 0 h) (eq-eqb (s.low / 2 ^ c) 0 (div-eq_of_lt l)))
 
+  past_either : (c h : ℕ) → c < 64 → h ≡ s.high → eqb (bit_or h (s.low / 2 ^ c)) 0 ≡ none_past s c
+  past_either c h b e =
+      ap (λ (x : ℕ). eqb (bit_or x (s.low / 2 ^ c)) 0) e ∙ either_zero s.high (s.low / 2 ^ c) ∙ past_low c b
+
+  pub past_low_yes : (c h : ℕ) → c < 64 → h ≡ s.high → bit_or h (s.low / 2 ^ c) ≡ 0 → none_past s c ≡ true
+  past_low_yes c h b e z = sym (past_either c h b e) ∙ eq-eqb (bit_or h (s.low / 2 ^ c)) 0 z
+
+  pub past_low_no : (c h : ℕ) → c < 64 → h ≡ s.high → (bit_or h (s.low / 2 ^ c) ≡ 0 → ⊥) → none_past s c ≡ false
+  past_low_no c h b e z = sym (past_either c h b e) ∙ ne_eqb (bit_or h (s.low / 2 ^ c)) 0 z
+
   past_high : (c : ℕ) → 64 ≤ c → eqb (s.high / 2 ^ (c - 64)) 0 ≡ none_past s c
   past_high c b =
       let p : 2 ^ c ≡ 2 ^ (c - 64) * 2 ^ 64 = ap (λ (x : ℕ). 2 ^ x) (omega arith) ∙ pow-add 2 (c - 64) 64 in
-      same_test (eqb (s.high / 2 ^ (c - 64)) 0) (none_past s c)
+      both_ways (eqb (s.high / 2 ^ (c - 64)) 0) (none_past s c)
       (λ e.
       let h : s.high < 2 ^ (c - 64) = zero_quotient s.high (c - 64) (eqb-true (s.high / 2 ^ (c - 64)) 0 e) in
       lt-ltb (value s) (2 ^ c) (omega (arith, digits_lt h fits)))
@@ -122,7 +122,7 @@ module _ (s : Segments) (fits : s.low < 2 ^ 64) where
 
   past_low_high : (c : ℕ) → c < 64 → none_past s c ≡ true → s.high ≡ 0
   past_low_high c b e =
-      eqb-true s.high 0 (and_left (eqb s.high 0) (eqb (s.low / 2 ^ c) 0) (past_low c b ∙ e))
+      eqb-true s.high 0 (and_elim_left (eqb s.high 0) (eqb (s.low / 2 ^ c) 0) (past_low c b ∙ e))
 
   pub past_high_yes : (c : ℕ) → 64 ≤ c → s.high / 2 ^ (c - 64) ≡ 0 → none_past s c ≡ true
   past_high_yes c b h = sym (past_high c b) ∙ eq-eqb (s.high / 2 ^ (c - 64)) 0 h

@@ -1,30 +1,41 @@
 -- A run of missing segments, by the lowest digit that is set from its start on.
 use Prim.Native.Nat.{ℕ, ◌+◌, ◌-◌, ◌/◌, ◌%◌, ◌^◌, ◌≤◌, ◌<◌, min}
 use mathlib.Core.Path.{◌≡◌, refl, sym, ap, ◌∙◌}
-use mathlib.Core.Bool.{Bool, true, false, cond, ◌&&◌, and-false}
+use mathlib.Core.Bool.{Bool, true, false, cond, ◌&&◌}
 use native.Mathlib.Nat.{mod-lt}
 use native.Mathlib.Omega.{arith}
+use Rattle.std.specs.Prelude.{Option, Some, None, MatchOption}
 use lib.Dec.{eqb, leb, ltb}
 use lib.Pow.{pow_pos}
-use borrow.Author.Tests.{le-leb, lt-leb, ltb-true, ltb-false}
+use borrow.Author.Tests.{le-leb, ltb-true, ltb-false}
 use Rattle.segments.specs.declared.Segments.{Segments}
 use Rattle.segments.specs.Digits.{digit, digit_shift, digit_mod, digit_past, LowestSet}
 use Rattle.segments.specs.Model.{is_in, run_from, run_of}
-use Rattle.segments.specs.Laws.{in_past_69, IsRun, Gap, run_is, run_unique}
+use Rattle.segments.specs.Laws.{in_past_69, IsRun, Gap, NoneFrom, run_is, run_unique}
 use Rattle.segments.proofs.Parts.{in_low, in_high}
 
-pub gap_run : (s : Segments) (n z k : ℕ) → Gap s n z → k ≤ 255 → min z k ≡ run_from s n k
-gap_run s n z k g b = run_unique s n k (min z k) (run_from s n k) short (run_is s n k)
+-- a run of at most k, where the gap is known
+gap_run : (s : Segments) (n z k : ℕ) → Gap s n z → min z k ≡ run_from s n k
+gap_run s n z k g = run_unique s n k (min z k) (run_from s n k) short (run_is s n k)
   where
     short : IsRun s n k (min z k)
     short = record {
       most = omega arith;
       missing = λ m l h. g.missing m l (omega arith);
-      ends = λ h. let e : n + min z k ≡ n + z = omega arith in ap (is_in s) e ∙ g.ends (omega arith);
+      ends = λ h. let e : n + min z k ≡ n + z = omega arith in ap (is_in s) e ∙ g.ends;
     }
 
-pub gap_past : (s : Segments) (n : ℕ) → 69 < n → Gap s n 255
-gap_past s n b = record { missing = λ m l h. in_past_69 s m (omega arith); ends = λ h. absurd (omega arith) }
+none_run : (s : Segments) (n k : ℕ) → NoneFrom s n → k ≡ run_from s n k
+none_run s n k f =
+    run_unique s n k k (run_from s n k) (record { most = omega arith; missing = λ m l h. f m l; ends = λ h. absurd (omega arith) }) (run_is s n k)
+
+pub found_run : (s : Segments) (n k r : ℕ) (found : Option ℕ) → MatchOption found (NoneFrom s n) (Gap s n) → MatchOption found (r ≡ k) (λ z. r ≡ min z k)
+    → r ≡ run_from s n k
+found_run s n k r None f e = e ∙ none_run s n k f
+found_run s n k r (Some z) g e = e ∙ gap_run s n z k g
+
+pub none_past_69 : (s : Segments) (n : ℕ) → 69 < n → NoneFrom s n
+none_past_69 s n b m l = in_past_69 s m (omega arith)
 
 module _ (s : Segments) (fits : s.low < 2 ^ 64) where
   -- what a digit of low or of high says of its segment
@@ -48,7 +59,7 @@ module _ (s : Segments) (fits : s.low < 2 ^ 64) where
         let in_low : n - 1 + t < 64 = digit_past s.low 64 (n - 1 + t) fits one in
         let e : n + t - 1 ≡ n - 1 + t = omega arith in record {
           missing = λ m l c. below_low m l c (omega arith);
-          ends = λ c. low_is (n + t) 1 (omega arith) (omega arith) (ap (digit s.low) e ∙ one);
+          ends = low_is (n + t) 1 (omega arith) (omega arith) (ap (digit s.low) e ∙ one);
         }
 
     -- none of low from n on, and so on into high
@@ -71,12 +82,12 @@ module _ (s : Segments) (fits : s.low < 2 ^ 64) where
           let e : n + (65 - n + u) ≡ 65 + u = omega arith in
           let p : 65 + u - 65 ≡ u = omega arith in record {
             missing = λ m l k. over m l (omega arith);
-            ends = λ k.
+            ends =
                 ap (is_in s) e ∙ high_is (65 + u) 1 (omega arith) (omega arith) (ap (digit s.high) p ∙ sym (digit_mod s.high 5 u c) ∙ one);
           }
 
-      pub gap_none : 8 ≤ u → Gap s n 255
-      gap_none h = record { missing = λ m l k. go m l (ltb m 70) refl; ends = λ k. absurd (omega arith) }
+      pub gap_none : 8 ≤ u → NoneFrom s n
+      gap_none h m l = go m l (ltb m 70) refl
         where
           go : (m : ℕ) → n ≤ m → (v : Bool) → ltb m 70 ≡ v → is_in s m ≡ false
           go m l true q = let c : m < 70 = ltb-true m 70 q in over m l (omega arith)
@@ -105,12 +116,12 @@ module _ (s : Segments) (fits : s.low < 2 ^ 64) where
         let c : n - 65 + u < 5 = digit_past (s.high % 2 ^ 5) 5 (n - 65 + u) (mod-lt s.high (pow_pos 5)) one in
         let e : n + u - 65 ≡ n - 65 + u = omega arith in record {
           missing = within;
-          ends = λ k.
+          ends =
               high_is (n + u) 1 (omega arith) (omega arith) (ap (digit s.high) e ∙ sym (digit_mod s.high 5 (n - 65 + u) c) ∙ one);
         }
 
-    pub gap_high_none : 8 ≤ u → Gap s n 255
-    gap_high_none h = record { missing = λ m l k. go m l (ltb m 70) refl; ends = λ k. absurd (omega arith) }
+    pub gap_high_none : 8 ≤ u → NoneFrom s n
+    gap_high_none h m l = go m l (ltb m 70) refl
       where
         go : (m : ℕ) → n ≤ m → (v : Bool) → ltb m 70 ≡ v → is_in s m ≡ false
         go m l true q = let c : m < 70 = ltb-true m 70 q in within m l (omega arith)
@@ -119,14 +130,6 @@ module _ (s : Segments) (fits : s.low < 2 ^ 64) where
 -- ---- what is asked for
 
 module _ (s : Segments) (n c m : ℕ) where
-  pub asked_zero : n ≡ 0 → 0 ≡ run_of s n c m
-  asked_zero e = ap (λ (t : Bool). cond (t && leb n c) (run_from s n (min m (c + 1 - n))) 0) (sym (lt-leb 1 n (omega arith)))
-
-  pub asked_past : c < n → 0 ≡ run_of s n c m
-  asked_past b =
-      ap (λ (t : Bool). cond t (run_from s n (min m (c + 1 - n))) 0) (sym (and-false (leb 1 n)))
-      ∙ ap (λ (t : Bool). cond (leb 1 n && t) (run_from s n (min m (c + 1 - n))) 0) (sym (lt-leb n c b))
-
   pub asked : (r k : ℕ) → 1 ≤ n → n ≤ c → k ≡ min m (c - (n - 1)) → r ≡ run_from s n k → r ≡ run_of s n c m
   asked r k a b q p =
       let same : c - (n - 1) ≡ c + 1 - n = omega arith in

@@ -6,6 +6,7 @@ use Rattle.std.proofs.Math.Nat.{add-div_right, div-eq_of_lt}
 use native.Mathlib.Omega.{arith}
 use Rattle.std.proofs.Math.Arith.{digits_lt}
 use Rattle.std.proofs.Math.Pow.{split, high, low, field, mod-mod-pow}
+use Rattle.std.proofs.lemmas.Bool.{cases_order}
 use Rattle.std.proofs.lemmas.Nat.{mod-pow-add, ones_cat, trailing_le}
 use Rattle.std.specs.Int.Count.{ones, count_trailing_zeros, under}
 
@@ -16,17 +17,6 @@ digit v k = v / 2 ^ k % 2
 pub digit_lt : (v k : ℕ) → digit v k < 2
 unfolding digit
 digit_lt v k = mod-lt (v / 2 ^ k) (lit< tt)
-
-order : (a b : ℕ) → (a < b) ⊎ ((a ≡ b) ⊎ (b < a))
-order zero zero = inr (inl refl)
-order zero (suc b) = inl (omega arith)
-order (suc a) zero = inr (inr (omega arith))
-order (suc a) (suc b) = go (order a b)
-  where
-    go : (a < b) ⊎ ((a ≡ b) ⊎ (b < a)) → (suc a < suc b) ⊎ ((suc a ≡ suc b) ⊎ (suc b < suc a))
-    go (inl h) = inl (omega arith)
-    go (inr (inl h)) = inr (inl (ap suc h))
-    go (inr (inr h)) = inr (inr (omega arith))
 
 -- ---- a number of two parts: h above, and w digits l below
 
@@ -122,11 +112,11 @@ module _ (v k : ℕ) (free : digit v k ≡ 0) where
 
   -- and no other digit changes
   pub digit_added : (m : ℕ) → digit (v + 2 ^ k) m ≡ cond (eqb m k) 1 (digit v m)
-  digit_added m = go (order m k)
+  digit_added m = go (cases_order m k)
     where
-      go : (m < k) ⊎ ((m ≡ k) ⊎ (k < m)) → digit (v + 2 ^ k) m ≡ cond (eqb m k) 1 (digit v m)
-      go (inl b) = rw (ne_eqb m k (omega arith)) (added_below m b)
-      go (inr (inl e)) = rw (eq-eqb m k e, e) added_same
+      go : (m ≡ k) ⊎ ((m < k) ⊎ (k < m)) → digit (v + 2 ^ k) m ≡ cond (eqb m k) 1 (digit v m)
+      go (inl e) = rw (eq-eqb m k e, e) added_same
+      go (inr (inl b)) = rw (ne_eqb m k (omega arith)) (added_below m b)
       go (inr (inr b)) =
           let e : m ≡ 1 + k + (m - (1 + k)) = omega arith in
           rw (ne_eqb m k (omega arith)) (rw e (added_above (m - (1 + k))))

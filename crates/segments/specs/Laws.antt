@@ -2,6 +2,7 @@
 use Prim.Native.Nat.{ℕ, zero, suc, ◌+◌, ◌-◌, ◌*◌, ◌%◌, ◌^◌, ◌≤◌, ◌<◌, min}
 use Rattle.std.specs.Prelude.{◌≡◌, Bool, not, ◌&&◌, ◌||◌, leb, ltb}
 use Rattle.std.proofs.Math.Path.{refl, ap}
+use mathlib.Mathlib.Data.Bool.Basic.{and_elim_left, and_elim_right}
 use Rattle.std.proofs.Common.{sym, ◌∙◌, add_assoc, mod-eq_of_lt, zero-add, add-zero, suc-add, add-one, arith, pow-add, pow_mono, pow_pos}
 use Rattle.std.proofs.Math.Bool.{true, false, cond, or-true, or-false}
 use Rattle.std.proofs.lemmas.Bool.{false≢true}
@@ -13,21 +14,13 @@ use Rattle.segments.specs.declared.Segments.{Segments}
 use Rattle.segments.specs.Digits.{digit, digit_lt, digit_below, digit_above, digit_added, added_lt, shorter, ones_next}
 use Rattle.segments.specs.Model.{value, is_number, is_in, none_in, with_digit, put_in, missing_of, none_past, first_from, first_missing, run_from, run_of, agrees}
 
--- ---- tests
-
-pub and_left : (a b : Bool) → (a && b) ≡ true → a ≡ true
-and_left true b e = refl
-and_left false b e = e
-
-pub and_right : (a b : Bool) → (a && b) ≡ true → b ≡ true
-and_right true b e = e
-and_right false b e = absurd (false≢true e)
+-- ---- numbers of segments
 
 pub number_of_lem : (n : ℕ) → 1 ≤ n → n ≤ 69 → is_number n ≡ true
 number_of_lem n a b = rw (le-leb 1 n a, le-leb n 69 b)
 
 pub number_from : (n : ℕ) → is_number n ≡ true → (1 ≤ n) × (n ≤ 69)
-number_from n e = (leb-true 1 n (and_left (leb 1 n) (leb n 69) e), leb-true n 69 (and_right (leb 1 n) (leb n 69) e))
+number_from n e = (leb-true 1 n (and_elim_left (leb 1 n) (leb n 69) e), leb-true n 69 (and_elim_right (leb 1 n) (leb n 69) e))
 
 pub number_not : (n : ℕ) → 69 < n → is_number n ≡ false
 number_not n h = rw (le-leb 1 n (omega arith), lt-leb n 69 h)
@@ -300,10 +293,10 @@ pub record Agreed (s : Segments) (c left : ℕ) : Type 0 where
 
 pub agreed : (s : Segments) (c left : ℕ) → agrees s c left ≡ true → Agreed s c left
 agreed s c left e =
-    let r = and_right (leb c 69) (none_past s c && eqb (missing_of s c) left) e in record {
-      most = leb-true c 69 (and_left (leb c 69) (none_past s c && eqb (missing_of s c) left) e);
-      past = and_left (none_past s c) (eqb (missing_of s c) left) r;
-      missing = eqb-true (missing_of s c) left (and_right (none_past s c) (eqb (missing_of s c) left) r);
+    let r = and_elim_right (leb c 69) (none_past s c && eqb (missing_of s c) left) e in record {
+      most = leb-true c 69 (and_elim_left (leb c 69) (none_past s c && eqb (missing_of s c) left) e);
+      past = and_elim_left (none_past s c) (eqb (missing_of s c) left) r;
+      missing = eqb-true (missing_of s c) left (and_elim_right (none_past s c) (eqb (missing_of s c) left) r);
     }
 
 -- a message of c segments starts so
@@ -404,10 +397,14 @@ run_unique s n k r q f g =
     let b : q < r → ⊥ = run_lt s n k q r g f in
     omega arith
 
--- z segments from n on are missing, and the next is in: 255 stands for all that there are
+-- no segment from n on is in
+abbrev pub NoneFrom : Segments → ℕ → Type 0
+NoneFrom s n = (m : ℕ) → n ≤ m → is_in s m ≡ false
+
+-- z segments from n on are missing, and the next is in
 pub record Gap (s : Segments) (n z : ℕ) : Type 0 where
   pub missing : (m : ℕ) → n ≤ m → m < n + z → is_in s m ≡ false
-  pub ends : z < 255 → is_in s (n + z) ≡ true
+  pub ends : is_in s (n + z) ≡ true
 
 -- the run from n on that is asked for: at most m, none past c, none of them in
 pub run_of_lem : (s : Segments) (n c m : ℕ) → 1 ≤ n → n ≤ c → IsRun s n (min m (c + 1 - n)) (run_of s n c m)

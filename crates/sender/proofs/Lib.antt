@@ -1,3 +1,3 @@
-mod Laid
-mod Decided
-mod Elapsed
+mod Given
+mod Pieces
+mod Searched

@@ -1,5 +1,5 @@
 -- The bytes carry the record: a call on a record in bounds leaves the bytes of the record that the model gives.
-use Rattle.std.specs.Prelude.{ℕ, ◌<◌, ◌≡◌, Bool, true, List, [], ◌∷◌, eqb, length, get_or}
+use Rattle.std.specs.Prelude.{ℕ, ◌<◌, ◌≡◌, Bool, true, List, [], ◌∷◌, eqb, length, get_or, None, Option, Some, is_some}
 use Rattle.std.proofs.Common.{arith, sym, ◌∙◌, eqb-true}
 use Rattle.std.proofs.Math.Path.{refl, ap}
 use Rattle.laws.specs.Choice.{then, each_of}
@@ -9,12 +9,8 @@ use Rattle.frame.specs.declared.judge.Route.{Route}
 use Rattle.transport.specs.declared.Key.{Key}
 use Rattle.transport.specs.Heads.{session_key_of}
 use Rattle.transport.specs.Responses.{response_of}
-use Rattle.slots.specs.declared.Found.{Found}
-use Rattle.slots.specs.declared.Found.TheVariants.{At, Nothing}
-use Rattle.slots.specs.Slots.{Within, first_at, or_else, is_at}
+use Rattle.slots.specs.Slots.{Within, first_at, or_else}
 use Rattle.slots.specs.Searches.{first_some}
-use Rattle.transfer.specs.declared.State.{State}
-use Rattle.transfer.specs.declared.State.TheVariants.{Closed, Open}
 use Rattle.transfer.specs.Kept.{Directed, ChangeFits, ask_fits, ask_opens_for, hear_fits, hear_opens_for}
 use Rattle.transfer.proofs.Kept.{announce_fits, announce_opens_for}
 use Rattle.sender_bytes.specs.Places.{last_place}
@@ -26,12 +22,13 @@ use Rattle.sender.specs.Transfers.{is_free, holds, first_free, key_place, slot_f
 use Rattle.sender.specs.Calls.{Decides, key_in, announces, asks, hears_from, applied_in, decided_in}
 use Rattle.sender.specs.Model.{Stepped, stepped, announce_step, ask_step}
 use Rattle.sender.specs.Facts.{ready_long, ready_bounds, state_ok_lem}
+use Rattle.transfer.specs.declared.Transfer.{Transfer}
 
 -- what is found lies in the record
 module _ (b : List ℕ) where
-  below : (p : State → Bool) (f : Found) → f ≡ first_at p 0 (transfers_at b) → Within f 4
-  below p (At i) e = let h : i < length (transfers_at b) = (first_some Closed p (transfers_at b) i (sym e)).1 in omega (arith, four_transfers b)
-  below p Nothing e = tt
+  below : (p : Option Transfer → Bool) (f : Option ℕ) → f ≡ first_at p 0 (transfers_at b) → Within f 4
+  below p (Some i) e = let h : i < length (transfers_at b) = (first_some None p (transfers_at b) i (sym e)).1 in omega (arith, four_transfers b)
+  below p None e = tt
 
   pub key_below : (k : Key) → Within (key_place k (transfers_at b)) 4
   key_below k = below (holds k) (key_place k (transfers_at b)) refl
@@ -39,18 +36,18 @@ module _ (b : List ℕ) where
   pub slot_below : (k : Key) → Within (slot_for k (transfers_at b)) 4
   slot_below k = go (key_place k (transfers_at b)) (key_below k)
     where
-      go : (f : Found) → Within f 4 → Within (or_else f (first_free (transfers_at b))) 4
-      go (At i) h = h
-      go Nothing h = below is_free (first_free (transfers_at b)) refl
+      go : (f : Option ℕ) → Within f 4 → Within (or_else f (first_free (transfers_at b))) 4
+      go (Some i) h = h
+      go None h = below is_free (first_free (transfers_at b)) refl
 
 module _ (b : List ℕ) (ready : ready_in b ≡ true) where
   pub carried : (d : Decides) → Within d.place 4 → ChangeFits d.step.change → OwnOf b d.step.change
       → sender_at (decided_in b d).1 ≡ (stepped (sender_at b) d).1
   carried d w fits own = go d.place w
     where
-      go : (f : Found) → Within f 4 → sender_at (applied_in b f d.step.change) ≡ (stepped (sender_at b) (record { place = f; step = d.step })).1
-      go (At i) low = changed_at b i (ready_long b ready) low d.step.change fits own
-      go Nothing low = refl
+      go : (f : Option ℕ) → Within f 4 → sender_at (applied_in b f d.step.change) ≡ (stepped (sender_at b) (record { place = f; step = d.step })).1
+      go (Some i) low = changed_at b i (ready_long b ready) low d.step.change fits own
+      go None low = refl
 
   module _ (small : low32 b last_place < 4294967296) where
     module _ (da : Address) (session : SessionNumber) where
@@ -60,17 +57,17 @@ module _ (b : List ℕ) (ready : ready_in b ≡ true) where
       pub announce_carried : (pgn n : ℕ) → sender_at (decided_in b (announces (sender_at b) k pgn n)).1 ≡ (announce_step (sender_at b) da session pgn n).1
       unfolding announce_step
       announce_carried pgn n =
-          let f : Found = slot_for k (transfers_at b) in
-          let x : State = state_in f (transfers_at b) in
-          carried (announces (sender_at b) k pgn n) (slot_below b k) (announce_fits x (is_at f) k pgn n (low32 b last_place) small)
-          (own_of b k (announces (sender_at b) k pgn n).step.change refl (announce_opens_for x (is_at f) k pgn n (low32 b last_place)))
+          let f : Option ℕ = slot_for k (transfers_at b) in
+          let x : Option Transfer = state_in f (transfers_at b) in
+          carried (announces (sender_at b) k pgn n) (slot_below b k) (announce_fits x (is_some f) k pgn n (low32 b last_place) small)
+          (own_of b k (announces (sender_at b) k pgn n).step.change refl (announce_opens_for x (is_some f) k pgn n (low32 b last_place)))
           ∙ ap (λ (y : Stepped). y.1) (then (in_bounds (sender_at b)) _ _ _ (ready_bounds b ready) refl)
 
       pub ask_carried : (n : ℕ) → sender_at (decided_in b (asks (sender_at b) k n)).1 ≡ (ask_step (sender_at b) da session n).1
       unfolding ask_step
       ask_carried n =
-          let f : Found = key_place k (transfers_at b) in
-          let x : State = state_in f (transfers_at b) in
+          let f : Option ℕ = key_place k (transfers_at b) in
+          let x : Option Transfer = state_in f (transfers_at b) in
           let ok = state_ok_lem b f ready in
           carried (asks (sender_at b) k n) (key_below b k) (ask_fits x n (low32 b last_place) ok small)
           (own_of b k (asks (sender_at b) k n).step.change refl (ask_opens_for x n (low32 b last_place) ok k))
@@ -81,18 +78,18 @@ module _ (b : List ℕ) (ready : ready_in b ≡ true) where
       abbrev κ : Key
       κ = session_key_of route d
 
-      directed : (f : Found) → f ≡ key_place κ (transfers_at b) → Directed (state_in f (transfers_at b))
-      directed Nothing e = tt
-      directed (At i) e = go (get_or (transfers_at b) i Closed) (first_some Closed (holds κ) (transfers_at b) i (sym e)).0
+      directed : (f : Option ℕ) → f ≡ key_place κ (transfers_at b) → Directed (state_in f (transfers_at b))
+      directed None e = tt
+      directed (Some i) e = go (get_or (transfers_at b) i None) (first_some None (holds κ) (transfers_at b) i (sym e)).0
         where
-          go : (x : State) → holds κ x ≡ true → Directed x
-          go Closed h = tt
-          go (Open t) h = λ q. aimed (sym (eqb-true _ _ (each_of (eqb t.offer.key.sa.0 κ.sa.0 ∷ eqb t.offer.key.da.0 κ.da.0 ∷ eqb t.offer.key.session.0 κ.session.0 ∷ []) h).1.0) ∙ q)
+          go : (x : Option Transfer) → holds κ x ≡ true → Directed x
+          go None h = tt
+          go (Some t) h = λ q. aimed (sym (eqb-true _ _ (each_of (eqb t.offer.key.sa.0 κ.sa.0 ∷ eqb t.offer.key.da.0 κ.da.0 ∷ eqb t.offer.key.session.0 κ.session.0 ∷ []) h).1.0) ∙ q)
 
       pub hear_carried : sender_at (decided_in b (hears_from (sender_at b) route d)).1 ≡ (stepped (sender_at b) (hears_from (sender_at b) route d)).1
       hear_carried =
-          let f : Found = key_place κ (transfers_at b) in
-          let x : State = state_in f (transfers_at b) in
+          let f : Option ℕ = key_place κ (transfers_at b) in
+          let x : Option Transfer = state_in f (transfers_at b) in
           let ok = state_ok_lem b f ready in
           carried (hears_from (sender_at b) route d) (key_below b κ)
           (hear_fits x (response_of route d) (low32 b last_place) ok (directed f refl) small)

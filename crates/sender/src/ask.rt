@@ -3,24 +3,25 @@ ghost use Rattle.std.specs.Prelude.{◌≡◌, true, length};
 ghost use Rattle.sender_bytes.specs.Places.{record_length};
 ghost use Rattle.sender_bytes.specs.Layout.{sender_at};
 ghost use Rattle.sender.specs.Transfers.{ready_in};
-ghost use Rattle.sender.specs.Calls.{decided_in, asks, ask_in};
+ghost use Rattle.sender.specs.Calls.{decided_in, asks, given_in, ask_in};
 
 use super::announce::key_in;
 use super::apply::apply;
-use super::ready::is_ready;
+use super::ready::is_in_bounds;
 use super::search::{find_key, held_in};
 use super::send::{quiet, send};
 use super::{FRAME_BYTES, Sent};
 use frame::refusal::Refusal;
 use frame::{Address, SessionNumber};
-use sender_bytes::places::LAST_AT;
+use sender_bytes::places::{LAST_AT, RECORD_BYTES};
 use transfer::{Reply, next};
 use transport::Key;
 use words::word_at;
 
 // The transfer of the key is found, it decides, and its change is applied.
-fn asked(buffer: &mut [u8], key: Key, len: usize) -> Reply
-    requires { (length buffer.old ≡ record_length) × (ready_in buffer.old ≡ true) }
+#[tactic(auto, using(crate::specs::Facts::state_ok_lem, transfer::specs::Kept::next_fits))]
+fn asked(buffer: &mut [u8; RECORD_BYTES], key: Key, len: usize) -> Reply
+    requires { ready_in buffer.old ≡ true }
     ensures { (result, buffer.new) ≡ decided_in buffer.old (asks (sender_at buffer.old) key len) }
 {
     let f = find_key(buffer, key);
@@ -29,8 +30,20 @@ fn asked(buffer: &mut [u8], key: Key, len: usize) -> Reply
     apply(buffer, f, step)
 }
 
+// The same, with the frame laid into out.
+#[tactic(auto, using(crate::specs::Facts::ask_sendable, crate::specs::Facts::state_ok_lem))]
+fn ask_ready(buffer: &mut [u8; RECORD_BYTES], key: Key, message: &[u8], out: &mut [u8]) -> Sent
+    requires { (length out.old ≡ 64) × (ready_in buffer.old ≡ true) }
+    ensures { (result, (buffer.new, out.new))
+        ≡ given_in buffer.old key message.now out.old (asks (sender_at buffer.old) key (length message.now)) }
+{
+    let reply = asked(buffer, key, message.len());
+    send(out, key, message, reply)
+}
+
 // Asked for the next frame of the transfer to the destination under the session number, with its message lent: a data frame or an EOMS is
 // laid into out, or nothing is due.
+#[tactic(auto, unfolding(crate::specs::Calls::ask_in, crate::specs::Transfers::ready_in))]
 pub fn next_frame(
     buffer: &mut [u8],
     da: Address,
@@ -40,13 +53,11 @@ pub fn next_frame(
 ) -> Sent
     ensures { (result, (buffer.new, out.new)) ≡ ask_in buffer.old da session message.now out.old }
 {
-    if !is_ready(buffer) {
+    let Some(record) = buffer.as_mut_array::<RECORD_BYTES>() else {
+        return quiet(Reply::Refused(Refusal::OutOfBounds));
+    };
+    if !is_in_bounds(record) || out.len() != FRAME_BYTES {
         return quiet(Reply::Refused(Refusal::OutOfBounds));
     }
-    if out.len() != FRAME_BYTES {
-        return quiet(Reply::Refused(Refusal::OutOfBounds));
-    }
-    let key = key_in(buffer, da, session);
-    let reply = asked(buffer, key, message.len());
-    send(out, key, message, reply)
+    ask_ready(record, key_in(record, da, session), message, out)
 }

@@ -17,10 +17,16 @@ use transfer::Reply;
 // The output for a frame: the most that CAN FD carries.
 pub const FRAME_BYTES: usize = 64;
 
-// What a call answers that may give a frame: the frame's identifier and its length in the output, both 0 where none goes out.
+// A frame laid into the output: its identifier, and its length there.
+#[derive(Clone, Copy)]
+pub struct Laid {
+    pub id: u32,
+    pub len: usize,
+}
+
+// What a call answers that may give a frame, and the frame that goes out.
 #[derive(Clone, Copy)]
 pub struct Sent {
     pub reply: Reply,
-    pub id: u32,
-    pub len: usize,
+    pub frame: Option<Laid>,
 }

@@ -3,65 +3,60 @@ ghost use Rattle.std.specs.Prelude.{◌≡◌, ◌<◌, length};
 ghost use Rattle.sender_bytes.specs.Places.{record_length};
 ghost use Rattle.sender.specs.Clock.{elapsed_of, one_elapsed, reading_in};
 
-use super::ready::is_ready;
+use super::ready::is_in_bounds;
 use super::search::transfer_in;
-use answer::{Acceptance, End, SlotEnd};
+use answer::Ending;
 use frame::refusal::Refusal;
-use sender_bytes::places::{LIMIT_AT, TRANSFERS};
+use sender_bytes::places::{LIMIT_AT, RECORD_BYTES, TRANSFERS};
 use sender_bytes::put::{put_change, put_last};
+use session::Change;
+use transfer::Transfer;
 use transfer::clock::at_reading;
-use transfer::{Change, State, Transfer};
 use words::word_at;
 
-// What a reading answers, and the ending of each transfer.
-#[derive(Clone, Copy)]
-pub struct SenderReading {
-    pub answer: Acceptance,
-    pub ends: [SlotEnd; 4],
-}
-
-fn expire_open(buffer: &mut [u8], i: usize, x: Transfer, limit: u32, t: u32) -> SlotEnd
-    requires { (i < 4) × (length buffer.old ≡ record_length) }
+// Transfer i, which is open, at the reading t.
+fn expire_open(
+    buffer: &mut [u8; RECORD_BYTES],
+    i: usize,
+    x: Transfer,
+    limit: u32,
+    t: u32,
+) -> Option<Ending>
+    requires { i < 4 }
     ensures { (result, buffer.new) ≡ elapsed_of buffer.old i x limit t }
 {
-    match at_reading(x, limit, t) {
-        End::Stays => SlotEnd { end: End::Stays },
-        End::Ended(e) => {
-            put_change(buffer, i, Change::Ends);
-            SlotEnd { end: End::Ended(e) }
-        }
-    }
+    let e = at_reading(x, limit, t)?;
+    put_change(buffer, i, Change::Ends);
+    Some(e)
 }
 
 // Transfer i at the reading t.
-fn expire(buffer: &mut [u8], i: usize, limit: u32, t: u32) -> SlotEnd
-    requires { (i < 4) × (length buffer.old ≡ record_length) }
+fn expire(buffer: &mut [u8; RECORD_BYTES], i: usize, limit: u32, t: u32) -> Option<Ending>
+    requires { i < 4 }
     ensures { (result, buffer.new) ≡ one_elapsed buffer.old i limit t }
 {
-    match transfer_in(buffer, i) {
-        State::Closed => SlotEnd { end: End::Stays },
-        State::Open(x) => expire_open(buffer, i, x, limit, t),
-    }
+    let x = transfer_in(buffer, i)?;
+    expire_open(buffer, i, x, limit, t)
 }
 
-// Takes one reading: 23, else each transfer judged, then the reading kept as the last.
-pub fn take_reading(buffer: &mut [u8], t: u32) -> SenderReading
+// Takes one reading: 23, else each transfer judged, then the reading kept as the last. Answers the ending of each transfer.
+#[tactic(auto, unfolding(crate::specs::Clock::reading_in, crate::specs::Clock::elapsed_in, crate::specs::Transfers::ready_in))]
+pub fn take_reading(buffer: &mut [u8], t: u32) -> Result<[Option<Ending>; TRANSFERS], Refusal>
     ensures { (result, buffer.new) ≡ reading_in buffer.old t }
 {
-    if !is_ready(buffer) {
-        return SenderReading {
-            answer: Acceptance::Refused(Refusal::OutOfBounds),
-            ends: [SlotEnd { end: End::Stays }; 4],
-        };
+    let Some(record) = buffer.as_mut_array::<RECORD_BYTES>() else {
+        return Err(Refusal::OutOfBounds);
+    };
+    if !is_in_bounds(record) {
+        return Err(Refusal::OutOfBounds);
     }
-    let limit = word_at(buffer, LIMIT_AT);
-    let first = expire(buffer, 0, limit, t);
-    let second = expire(buffer, 1, limit, t);
-    let third = expire(buffer, 2, limit, t);
-    let fourth = expire(buffer, 3, limit, t);
-    put_last(buffer, t);
-    SenderReading {
-        answer: Acceptance::Accepted,
-        ends: [first, second, third, fourth],
-    }
+    let limit = word_at(record, LIMIT_AT);
+    let ends = [
+        expire(record, 0, limit, t),
+        expire(record, 1, limit, t),
+        expire(record, 2, limit, t),
+        expire(record, 3, limit, t),
+    ];
+    put_last(record, t);
+    Ok(ends)
 }

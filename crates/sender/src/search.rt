@@ -1,29 +1,31 @@
 // Searches over the transfers in a record's bytes.
-ghost use Rattle.std.specs.Prelude.{◌≡◌, false, not, ◌≤◌, ◌<◌, length, get_or, drop};
+ghost use Rattle.std.specs.Prelude.{◌≡◌, false, not, ◌≤◌, ◌<◌, length, get_or, drop, None, Some};
 ghost use Rattle.slots.specs.Slots.{Within};
-ghost use Rattle.transfer.specs.declared.State.TheVariants.{Closed, Open};
 ghost use Rattle.sender_bytes.specs.Places.{record_length};
 ghost use Rattle.sender_bytes.specs.Layout.{transfers_at};
 ghost use Rattle.sender.specs.Transfers.{is_free, holds, first_free, key_place, slot_for, state_in, OpenAt, any_holds};
 
 use frame::Address;
 use sender_bytes::layout::{state_at, transfer_at};
-use sender_bytes::places::{DA_AT, OWN_AT, SESSION_AT, TRANSFER_BYTES, TRANSFERS, transfer_place};
-use slots::Found;
-use transfer::{State, Transfer};
+use sender_bytes::places::{
+    DA_AT, OWN_AT, RECORD_BYTES, SESSION_AT, TRANSFER_BYTES, TRANSFERS, transfer_place,
+};
+use transfer::Transfer;
 use transport::Key;
 
-fn is_free(bytes: &[u8], i: usize) -> bool
-    requires { (length bytes.now ≡ record_length) × (i < 4) }
-    ensures { result ≡ is_free (get_or (transfers_at bytes.now) i Closed) }
+#[tactic(auto, using(crate::specs::Held::freed))]
+fn is_free(bytes: &[u8; RECORD_BYTES], i: usize) -> bool
+    requires { i < 4 }
+    ensures { result ≡ is_free (get_or (transfers_at bytes.now) i None) }
 {
     bytes[transfer_place(i)] != 1
 }
 
 // Whether transfer i is open under the key. Its SA is the record's own address.
-fn holds_key(bytes: &[u8], i: usize, k: Key) -> bool
-    requires { (length bytes.now ≡ record_length) × (i < 4) }
-    ensures { result ≡ holds k (get_or (transfers_at bytes.now) i Closed) }
+#[tactic(auto, using(crate::specs::Held::not_held, crate::specs::Held::held))]
+fn holds_key(bytes: &[u8; RECORD_BYTES], i: usize, k: Key) -> bool
+    requires { i < 4 }
+    ensures { result ≡ holds k (get_or (transfers_at bytes.now) i None) }
 {
     let at = transfer_place(i);
     if bytes[at] != 1 {
@@ -35,107 +37,66 @@ fn holds_key(bytes: &[u8], i: usize, k: Key) -> bool
 }
 
 // Whether a transfer from the one given on is open under the key.
-pub fn any_holds(bytes: &[u8], from: usize, k: Key) -> bool
-    requires { (length bytes.now ≡ record_length) × (from ≤ 4) }
+pub fn any_holds(bytes: &[u8; RECORD_BYTES], from: usize, k: Key) -> bool
+    requires { from ≤ 4 }
     ensures { result ≡ any_holds k (drop from (transfers_at bytes.now)) }
 {
-    let mut j = from;
-    while j < TRANSFERS {
-        if holds_key(bytes, j, k) {
-            return true;
-        }
-        j = j + 1;
-    }
-    false
+    (from..TRANSFERS).any(|i| holds_key(bytes, i, k))
 }
 
 // The lowest free one.
-fn find_free(bytes: &[u8]) -> Found
-    requires { length bytes.now ≡ record_length }
+fn find_free(bytes: &[u8; RECORD_BYTES]) -> Option<usize>
     ensures { (result ≡ first_free (transfers_at bytes.now)) × Within result 4 }
 {
-    let mut i: usize = 0;
-    let found = loop {
-        if i == TRANSFERS {
-            break Found::Nothing;
-        }
-        if is_free(bytes, i) {
-            break Found::At(i);
-        }
-        i = i + 1;
-    };
-    found
+    (0..TRANSFERS).find(|&i| is_free(bytes, i))
 }
 
 // The one that is open under the key.
-pub fn find_key(bytes: &[u8], k: Key) -> Found
-    requires { length bytes.now ≡ record_length }
-    ensures { (result ≡ key_place k (transfers_at bytes.now)) × Within result 4 }
+pub fn find_key(bytes: &[u8; RECORD_BYTES], k: Key) -> Option<usize>
+    ensures { (result ≡ key_place k (transfers_at bytes.now)) × Within result 4 × OpenAt result (transfers_at bytes.now) }
 {
-    let mut i: usize = 0;
-    let found = loop {
-        if i == TRANSFERS {
-            break Found::Nothing;
-        }
-        if holds_key(bytes, i, k) {
-            break Found::At(i);
-        }
-        i = i + 1;
-    };
-    found
+    (0..TRANSFERS).find(|&i| holds_key(bytes, i, k))
 }
 
 // The one for a key: the one that is open under it, else the lowest that is free.
-pub fn slot_for(bytes: &[u8], k: Key) -> Found
-    requires { length bytes.now ≡ record_length }
+pub fn slot_for(bytes: &[u8; RECORD_BYTES], k: Key) -> Option<usize>
     ensures { (result ≡ slot_for k (transfers_at bytes.now)) × Within result 4 }
 {
-    match find_key(bytes, k) {
-        Found::At(i) => Found::At(i),
-        Found::Nothing => find_free(bytes),
-    }
+    find_key(bytes, k).or_else(|| find_free(bytes))
 }
 
 // Transfer i.
-pub fn transfer_in(bytes: &[u8], i: usize) -> State
-    requires { (length bytes.now ≡ record_length) × (i < 4) }
-    ensures { result ≡ get_or (transfers_at bytes.now) i Closed }
+pub fn transfer_in(bytes: &[u8; RECORD_BYTES], i: usize) -> Option<Transfer>
+    requires { i < 4 }
+    ensures { result ≡ get_or (transfers_at bytes.now) i None }
 {
     let own = Address(bytes[OWN_AT]);
     let at = transfer_place(i);
-    let end = at + TRANSFER_BYTES;
-    state_at(own, &bytes[at..end])
+    state_at(own, &bytes[at..at + TRANSFER_BYTES])
 }
 
 // Transfer i, which is open.
-fn open_in(bytes: &[u8], i: usize) -> Transfer
-    requires { (length bytes.now ≡ record_length) × (i < 4) × (is_free (get_or (transfers_at bytes.now) i Closed) ≡ false) }
-    ensures { Open result ≡ get_or (transfers_at bytes.now) i Closed }
+fn open_in(bytes: &[u8; RECORD_BYTES], i: usize) -> Transfer
+    requires { (i < 4) × (is_free (get_or (transfers_at bytes.now) i None) ≡ false) }
+    ensures { Some result ≡ get_or (transfers_at bytes.now) i None }
 {
     let own = Address(bytes[OWN_AT]);
     let at = transfer_place(i);
-    let end = at + TRANSFER_BYTES;
-    transfer_at(own, &bytes[at..end])
+    transfer_at(own, &bytes[at..at + TRANSFER_BYTES])
 }
 
 // What is known of the key that it was found for by find_key: a transfer that was found is open, and its first byte is not asked again.
-pub fn held_in(bytes: &[u8], f: Found) -> State
-    requires { (length bytes.now ≡ record_length) × Within f 4 × OpenAt f (transfers_at bytes.now) }
+pub fn held_in(bytes: &[u8; RECORD_BYTES], f: Option<usize>) -> Option<Transfer>
+    requires { Within f 4 × OpenAt f (transfers_at bytes.now) }
     ensures { result ≡ state_in f (transfers_at bytes.now) }
 {
-    match f {
-        Found::At(i) => State::Open(open_in(bytes, i)),
-        Found::Nothing => State::Closed,
-    }
+    f.map(|i| open_in(bytes, i))
 }
 
 // What is known of the key that it was found for.
-pub fn state_in(bytes: &[u8], f: Found) -> State
-    requires { (length bytes.now ≡ record_length) × Within f 4 }
+pub fn state_in(bytes: &[u8; RECORD_BYTES], f: Option<usize>) -> Option<Transfer>
+    requires { Within f 4 }
     ensures { result ≡ state_in f (transfers_at bytes.now) }
 {
-    match f {
-        Found::At(i) => transfer_in(bytes, i),
-        Found::Nothing => State::Closed,
-    }
+    f.and_then(|i| transfer_in(bytes, i))
 }

@@ -1,6 +1,5 @@
 // The frame that a reply sends, laid into a lent output (docs/WIRE.md).
-ghost use Rattle.std.specs.Prelude.{◌≡◌, ℕ, ◌+◌, ◌-◌, ◌*◌, ◌≤◌, List, length};
-ghost use Rattle.std.proofs.Math.Option.{some};
+ghost use Rattle.std.specs.Prelude.{◌≡◌, ℕ, ◌+◌, ◌-◌, ◌*◌, ◌≤◌, List, length, Some};
 ghost use Rattle.transport.specs.declared.Key.{Key};
 ghost use Rattle.transport.specs.Heads.{laid_in};
 ghost use Rattle.transport.specs.Segments.{segment_bytes};
@@ -8,7 +7,7 @@ ghost use Rattle.transfer.specs.Sends.{piece_of, segment_wire};
 ghost use Rattle.transfer.specs.declared.Reply.TheVariants as reply;
 ghost use Rattle.sender.specs.Calls.{Announces, Sendable, quietly, sent_by, sent_in};
 
-use super::Sent;
+use super::{Laid, Sent};
 use frame::SegmentNumber;
 use octets::copy;
 use transfer::{Reply, announcement_of, status_of};
@@ -22,27 +21,23 @@ use transport::segment::{write_segment, write_whole};
 pub fn quiet(reply: Reply) -> Sent
     ensures { result ≡ quietly reply }
 {
-    Sent {
-        reply: reply,
-        id: 0,
-        len: 0,
-    }
+    Sent { reply, frame: None }
 }
 
 // A control frame.
 fn send_control(out: &mut [u8], reply: Reply, id: u32, bytes: [u8; 12]) -> Sent
     requires { length out.old ≡ 64 }
-    ensures { (result, out.new) ≡ sent_by (some (id, bytes)) reply out.old }
+    ensures { (result, out.new) ≡ sent_by (Some (id, bytes)) reply out.old }
 {
     copy(out, 0, &bytes, 0, 12);
     Sent {
-        reply: reply,
-        id: id,
-        len: 12,
+        reply,
+        frame: Some(Laid { id, len: 12 }),
     }
 }
 
 // Lays the data frame of segment n into out: its length. Most segments are whole.
+#[tactic(auto, unfolding(session::specs::Segments::due_of), using(crate::proofs::Pieces::piece_laid))]
 fn lay_segment(out: &mut [u8], key: Key, n: SegmentNumber, message: &[u8]) -> usize
     requires { (length out.old ≡ 64) × Sendable message.now (reply.Segment n) }
     ensures { (result, out.new) ≡ laid_in (segment_bytes key n.0 (piece_of message.now n.0)) out.old }
@@ -58,14 +53,15 @@ fn lay_segment(out: &mut [u8], key: Key, n: SegmentNumber, message: &[u8]) -> us
 // The data frame of segment n.
 fn send_segment(out: &mut [u8], key: Key, n: SegmentNumber, message: &[u8]) -> Sent
     requires { (length out.old ≡ 64) × Sendable message.now (reply.Segment n) }
-    ensures { (result, out.new) ≡ sent_by (some (segment_wire key message.now n.0)) (reply.Segment n) out.old }
+    ensures { (result, out.new) ≡ sent_by (Some (segment_wire key message.now n.0)) (reply.Segment n) out.old }
 {
     let len = lay_segment(out, key, n, message);
-    let id = data_id(key);
     Sent {
         reply: Reply::Segment(n),
-        id: id,
-        len: len,
+        frame: Some(Laid {
+            id: data_id(key),
+            len,
+        }),
     }
 }
 

@@ -1,5 +1,5 @@
 -- A change put into a sender's record is read back as that change, and nothing else is changed.
-use Rattle.std.specs.Prelude.{ℕ, ◌+◌, ◌<◌, ◌≤◌, min, ◌≡◌, refl, ◌⊎◌, cond, eqb, ltb, length, set, take, drop}
+use Rattle.std.specs.Prelude.{ℕ, ◌+◌, ◌<◌, ◌≤◌, min, ◌≡◌, refl, ◌⊎◌, cond, eqb, ltb, length, set, take, drop, None, Option, Some}
 use Rattle.std.proofs.Common.{arith, ap₂, subst, ◌∙◌, inl, inr, length-take, length-set, get_or-take, get_or-set_same, get_or-set_other, ext_get_or, ltb-true, ltb-false}
 use Rattle.std.proofs.Math.Decide.{dec_lt, ℕ_discrete}
 use Rattle.std.proofs.Math.Path.{sym, ap, fun_ext}
@@ -14,10 +14,8 @@ use Rattle.words.specs.Words.{low32}
 use Rattle.transfer.specs.declared.Offer.{Offer}
 use Rattle.transfer.specs.declared.Course.{Course}
 use Rattle.transfer.specs.declared.Transfer.{Transfer}
-use Rattle.transfer.specs.declared.State.{State}
-use Rattle.transfer.specs.declared.State.TheVariants.{Closed, Open}
-use Rattle.transfer.specs.declared.Change.{Change}
-use Rattle.transfer.specs.declared.Change.TheVariants.{Stays, Opens, Moves, Ends}
+use Rattle.session.specs.declared.Change.{Change}
+use Rattle.session.specs.declared.Change.TheVariants.{Stays, Opens, Moves, Ends}
 use Rattle.transfer.specs.Decisions.{moved, after}
 use Rattle.transfer.specs.Kept.{CourseFits, TransferFits, ChangeFits}
 use Rattle.sender_bytes.specs.Places.{record_length, head_length, transfer_length, course_length, offer_length, transfer_place, limit_place, last_place, state_place}
@@ -74,12 +72,12 @@ module _ (own : Address) (p : List ℕ) (whole : length p ≡ transfer_length) (
 
   moved_piece : state_at own q ≡ moved (state_at own p) c
   moved_piece =
-      ap (λ (n : ℕ). cond (eqb n 1) (Open (transfer_at own q)) Closed) same_code
-      ∙ ap₂ (λ (o : Offer) (d : Course). cond (eqb (get_or p state_place 0) 1) (Open (record { offer = o; course = d })) Closed) same_offer new_course
-      ∙ over_cond (λ (x : State). moved x c) (eqb (get_or p state_place 0) 1) (Open (transfer_at own p)) Closed
+      ap (λ (n : ℕ). cond (eqb n 1) (Some (transfer_at own q)) None) same_code
+      ∙ ap₂ (λ (o : Offer) (d : Course). cond (eqb (get_or p state_place 0) 1) (Some (record { offer = o; course = d })) None) same_offer new_course
+      ∙ over_cond (λ (x : Option Transfer). moved x c) (eqb (get_or p state_place 0) 1) (Some (transfer_at own p)) None
 
-opened_piece : (own : Address) (t : Transfer) → t.offer.key.sa ≡ own → TransferFits t → state_at own (transfer_bytes t) ≡ Open t
-opened_piece own t e f = ap (λ (a : Address). Open (transfer_at a (transfer_bytes t))) (sym e) ∙ ap Open (read_back t f)
+opened_piece : (own : Address) (t : Transfer) → t.offer.key.sa ≡ own → TransferFits t → state_at own (transfer_bytes t) ≡ Some t
+opened_piece own t e f = ap (λ (a : Address). Some (transfer_at a (transfer_bytes t))) (sym e) ∙ ap Some (read_back t f)
 
 -- ---- bytes put into one piece
 
@@ -108,7 +106,7 @@ module _ (b : List ℕ) (i : ℕ) (long : length b ≡ record_length) (low : i <
   -- a change puts nothing, or bytes into one piece
   as_put : (P : List ℕ → Type 0) → P b
       → ((at : ℕ) (s : List ℕ) (n : ℕ) → at + n ≤ transfer_length → n ≤ length s → P (paste b (transfer_place i + at) s n))
-      → (c : Change) → P (changed b i c)
+      → (c : Change Transfer Course) → P (changed b i c)
   as_put P same put Stays = same
   as_put P same put (Opens t) =
       let z : transfer_place i + 0 ≡ transfer_place i = omega arith in
@@ -120,7 +118,7 @@ module _ (b : List ℕ) (i : ℕ) (long : length b ≡ record_length) (low : i <
 
   -- ---- what a change leaves
 
-  module _ (c : Change) where
+  module _ (c : Change Transfer Course) where
     pub length_changed : length (changed b i c) ≡ record_length
     length_changed = as_put (λ (x : List ℕ). length x ≡ record_length) long put_length c
 
@@ -142,7 +140,7 @@ module _ (b : List ℕ) (i : ℕ) (long : length b ≡ record_length) (low : i <
 
   -- ---- what it makes of its own piece
 
-  pub this_changed : (c : Change) → ChangeFits c → OwnOf b c → state_at (own_at b) (piece_at (changed b i c) i) ≡ after (state_at (own_at b) (piece_at b i)) c
+  pub this_changed : (c : Change Transfer Course) → ChangeFits c → OwnOf b c → state_at (own_at b) (piece_at (changed b i c) i) ≡ after (state_at (own_at b) (piece_at b i)) c
   this_changed Stays fits own = refl
   this_changed (Opens t) fits own =
       ap (state_at (own_at b)) (window_same b (transfer_place i) (transfer_bytes t) transfer_length (omega arith) (omega arith))
@@ -157,40 +155,40 @@ module _ (b : List ℕ) (i : ℕ) (long : length b ≡ record_length) (low : i <
 
   -- ---- the record after a change
 
-  module _ (c : Change) (fits : ChangeFits c) (own : OwnOf b c) where
+  module _ (c : Change Transfer Course) (fits : ChangeFits c) (own : OwnOf b c) where
     abbrev x : List ℕ
     x = changed b i c
 
-    abbrev made : State
-    made = after (get_or (transfers_at b) i Closed) c
+    abbrev made : Option Transfer
+    made = after (get_or (transfers_at b) i None) c
 
-    abbrev other : List State
+    abbrev other : List (Option Transfer)
     other = set (transfers_at b) i made
 
-    this_transfer : get_or (transfers_at x) i Closed ≡ get_or other i Closed
+    this_transfer : get_or (transfers_at x) i None ≡ get_or other i None
     this_transfer =
         let four : length (transfers_at b) ≡ 4 = four_transfers b in
         transfer_at_lem x i low
         ∙ ap (λ (a : Address). state_at a (piece_at x i)) (own_changed c)
         ∙ this_changed c fits own
-        ∙ ap (λ (s : State). after s c) (sym (transfer_at_lem b i low))
-        ∙ sym (get_or-set_same (transfers_at b) i made Closed (omega arith))
+        ∙ ap (λ (s : Option Transfer). after s c) (sym (transfer_at_lem b i low))
+        ∙ sym (get_or-set_same (transfers_at b) i made None (omega arith))
 
-    other_transfer : (j : ℕ) → j < 4 → (j ≡ i → ⊥) → get_or (transfers_at x) j Closed ≡ get_or other j Closed
+    other_transfer : (j : ℕ) → j < 4 → (j ≡ i → ⊥) → get_or (transfers_at x) j None ≡ get_or other j None
     other_transfer j h ne =
         transfer_at_lem x j h
         ∙ ap₂ (λ (a : Address) (p : List ℕ). state_at a p) (own_changed c) (other_changed c j ne)
         ∙ sym (transfer_at_lem b j h)
-        ∙ sym (get_or-set_other (transfers_at b) i j made Closed ne)
+        ∙ sym (get_or-set_other (transfers_at b) i j made None ne)
 
     transfers_changed : transfers_at x ≡ other
     transfers_changed =
-        ext_get_or Closed (transfers_at x) other
+        ext_get_or None (transfers_at x) other
         (four_transfers x ∙ sym (four_transfers b) ∙ sym (length-set (transfers_at b) i made))
         (λ j h. by_number j (let four : length (transfers_at x) ≡ 4 = four_transfers x in omega arith) (ℕ_discrete j i))
       where
-        by_number : (j : ℕ) → j < 4 → Dec (j ≡ i) → get_or (transfers_at x) j Closed ≡ get_or other j Closed
-        by_number j h (yes e) = subst (λ (k : ℕ). get_or (transfers_at x) k Closed ≡ get_or other k Closed) (sym e) this_transfer
+        by_number : (j : ℕ) → j < 4 → Dec (j ≡ i) → get_or (transfers_at x) j None ≡ get_or other j None
+        by_number j h (yes e) = subst (λ (k : ℕ). get_or (transfers_at x) k None ≡ get_or other k None) (sym e) this_transfer
         by_number j h (no ne) = other_transfer j h ne
 
     pub changed_at : sender_at (changed b i c) ≡ with_transfer (sender_at b) i c

@@ -1,5 +1,6 @@
 -- A change put into a sender's record is read back as that change, and nothing else is changed.
-use Rattle.std.specs.Prelude.{ℕ, zero, suc, ◌+◌, ◌*◌, ◌<◌, ◌≤◌, ◌≡◌, refl, Bool, true, false, length, take, drop}
+use Rattle.std.specs.Prelude.{ℕ, zero, suc, ◌+◌, ◌*◌, ◌<◌, ◌≤◌, ◌≡◌, refl, Bool, true, false, length, take, drop, None, Option}
+use Rattle.std.specs.Int.{from_bool}
 use Rattle.std.proofs.Common.{arith, ap₂, ◌∙◌, inr, length-drop, get_or-take, get_or-drop, ext_get_or, length-take-le}
 use Rattle.std.proofs.Math.Path.{sym, ap, fun_ext}
 use mathlib.Core.List.{List, [], ◌∷◌, ◌++◌}
@@ -14,13 +15,11 @@ use Rattle.words.specs.Laws.{four_bytes, low32_read_back}
 use Rattle.transfer.specs.declared.Offer.{Offer}
 use Rattle.transfer.specs.declared.Course.{Course}
 use Rattle.transfer.specs.declared.Transfer.{Transfer}
-use Rattle.transfer.specs.declared.State.{State}
-use Rattle.transfer.specs.declared.State.TheVariants.{Closed}
-use Rattle.transfer.specs.declared.Change.{Change}
-use Rattle.transfer.specs.declared.Change.TheVariants.{Stays, Opens, Moves, Ends}
+use Rattle.session.specs.declared.Change.{Change}
+use Rattle.session.specs.declared.Change.TheVariants.{Stays, Opens, Moves, Ends}
 use Rattle.transfer.specs.Kept.{OpensFor, CourseFits, TransferFits}
 use Rattle.sender_bytes.specs.Places.{record_length, transfer_length, offer_length, transfer_place, own_place, limit_place, last_place}
-use Rattle.sender_bytes.specs.Layout.{flag_byte, flag_at, offer_bytes, course_bytes, transfer_bytes, offer_at, course_at, transfer_at, state_at}
+use Rattle.sender_bytes.specs.Layout.{flag_at, offer_bytes, course_bytes, transfer_bytes, offer_at, course_at, transfer_at, state_at}
 use Rattle.sender_bytes.specs.Layout.{Sender, piece_at, own_at, transfers_at, sender_at, opened_bytes}
 
 unfoldable pub word_by : (ℕ → ℕ) → ℕ
@@ -43,7 +42,7 @@ course_behind p = ap course_by (fun_ext (λ (k : ℕ). sym (get_or-drop offer_le
 
 -- ---- a transfer read back
 
-flag_back : (t : Bool) → flag_at (flag_byte t) ≡ t
+flag_back : (t : Bool) → flag_at (from_bool t) ≡ t
 flag_back true = refl
 flag_back false = refl
 
@@ -51,7 +50,7 @@ course_made : Bool → Bool → Bool → ℕ → ℕ → ℕ → Course
 course_made a b c n g m = record { next = record { 0 = n }; granted = record { 0 = g }; complete = a; reported = b; owed = c; mark = m }
 
 flags_back : (c : Course) (n g m : ℕ)
-    → course_made (flag_at (flag_byte c.complete)) (flag_at (flag_byte c.reported)) (flag_at (flag_byte c.owed)) n g m
+    → course_made (flag_at (from_bool c.complete)) (flag_at (from_bool c.reported)) (flag_at (from_bool c.owed)) n g m
     ≡ course_made c.complete c.reported c.owed n g m
 flags_back c n g m = rw (flag_back c.complete, flag_back c.reported, flag_back c.owed) refl
 
@@ -82,7 +81,7 @@ read_back t f =
 
 -- ---- the transfers of a record by their numbers
 
-pub transfer_at_lem : (b : List ℕ) (i : ℕ) → i < 4 → get_or (transfers_at b) i Closed ≡ state_at (own_at b) (piece_at b i)
+pub transfer_at_lem : (b : List ℕ) (i : ℕ) → i < 4 → get_or (transfers_at b) i None ≡ state_at (own_at b) (piece_at b i)
 unfolding transfers_at
 transfer_at_lem b zero h = refl
 transfer_at_lem b (suc zero) h = refl
@@ -99,13 +98,13 @@ whole_piece b i long low =
     length-take-le transfer_length (drop (transfer_place i) b) (simp length-drop (omega arith))
 
 -- a transfer that opens is of the record's own address
-abbrev pub OwnOf : List ℕ → Change → Type 0
+abbrev pub OwnOf : List ℕ → Change Transfer Course → Type 0
 OwnOf b Stays = Unit {0}
 OwnOf b (Opens t) = t.offer.key.sa ≡ own_at b
 OwnOf b (Moves c) = Unit {0}
 OwnOf b Ends = Unit {0}
 
-pub own_of : (b : List ℕ) (k : Key) (c : Change) → k.sa ≡ own_at b → OpensFor k c → OwnOf b c
+pub own_of : (b : List ℕ) (k : Key) (c : Change Transfer Course) → k.sa ≡ own_at b → OpensFor k c → OwnOf b c
 own_of b k Stays e o = tt
 own_of b k (Opens t) e o = ap (λ (κ : Key). κ.sa) o ∙ e
 own_of b k (Moves c) e o = tt
@@ -124,17 +123,17 @@ module _ (p q : List ℕ) (n : ℕ) (same : take n p ≡ take n q) where
   pub own_same : 1 ≤ n → own_at p ≡ own_at q
   own_same h = ap (λ (k : ℕ). record { 0 = k }) (byte_same own_place (omega arith))
 
-pub same_sender : {a a' : Address} {n n' m m' : ℕ} {ts ts' : List State} → a ≡ a' → n ≡ n' → m ≡ m' → ts ≡ ts'
+pub same_sender : {a a' : Address} {n n' m m' : ℕ} {ts ts' : List (Option Transfer)} → a ≡ a' → n ≡ n' → m ≡ m' → ts ≡ ts'
     → ◌≡◌ {A = Sender} (record { own = a; limit = n; last = m; transfers = ts }) (record { own = a'; limit = n'; last = m'; transfers = ts' })
 same_sender e f g h = rw (e, f, g, h) refl
 
 -- ---- a record as it is opened
 
 pub opened_at : (own : Address) (limit reading : ℕ) → limit < 4294967296 → reading < 4294967296
-    → sender_at (opened_bytes own limit reading) ≡ record { own = own; limit = limit; last = reading; transfers = Closed ∷ Closed ∷ Closed ∷ Closed ∷ [] }
+    → sender_at (opened_bytes own limit reading) ≡ record { own = own; limit = limit; last = reading; transfers = None ∷ None ∷ None ∷ None ∷ [] }
 unfolding transfers_at
 opened_at own limit reading h g =
-    ap₂ (λ (n m : ℕ). record { own = own; limit = n; last = m; transfers = Closed ∷ Closed ∷ Closed ∷ Closed ∷ [] })
+    ap₂ (λ (n m : ℕ). record { own = own; limit = n; last = m; transfers = None ∷ None ∷ None ∷ None ∷ [] })
     (low32_read_back limit h)
     (low32_read_back reading g)
 
@@ -166,7 +165,7 @@ module _ (b : List ℕ) (reading : ℕ) (long : length b ≡ record_length) (fit
 
   transfers_same : transfers_at y ≡ transfers_at b
   transfers_same =
-      ext_get_or Closed (transfers_at y) (transfers_at b) (four_transfers y ∙ sym (four_transfers b)) (λ j h.
+      ext_get_or None (transfers_at y) (transfers_at b) (four_transfers y ∙ sym (four_transfers b)) (λ j h.
       let four : length (transfers_at y) ≡ 4 = four_transfers y in
       transfer_at_lem y j (omega arith)
       ∙ ap₂ (λ (a : Address) (p : List ℕ). state_at a p) own_kept (pieces_same j)

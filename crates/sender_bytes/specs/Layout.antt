@@ -1,27 +1,22 @@
 -- The sender's record as bytes of a fixed layout: own address, idle limit and last reading, then four transfers (02, E2). Numbers of 32
 -- bits have their low byte first.
-use Rattle.std.specs.Prelude.{ℕ, Bool, true, false, cond, not, List, [], ◌∷◌, ◌++◌, eqb, length, get_or, set, take, drop, replicate}
+use Rattle.std.specs.Prelude.{ℕ, Bool, true, false, cond, not, List, [], ◌∷◌, ◌++◌, eqb, length, get_or, set, take, drop, replicate, None, Option, Some}
+use Rattle.std.specs.Int.{from_bool}
 use Rattle.std.proofs.Math.Seq.{paste}
 use Rattle.frame.specs.declared.Address.{Address}
 use Rattle.words.specs.Words.{low4, low32}
 use Rattle.transfer.specs.declared.Offer.{Offer}
 use Rattle.transfer.specs.declared.Course.{Course}
 use Rattle.transfer.specs.declared.Transfer.{Transfer}
-use Rattle.transfer.specs.declared.State.{State}
-use Rattle.transfer.specs.declared.State.TheVariants.{Closed, Open}
-use Rattle.transfer.specs.declared.Change.{Change}
-use Rattle.transfer.specs.declared.Change.TheVariants.{Stays, Opens, Moves, Ends}
+use Rattle.session.specs.declared.Change.{Change}
+use Rattle.session.specs.declared.Change.TheVariants.{Stays, Opens, Moves, Ends}
 use Rattle.transfer.specs.Decisions.{after}
 use Rattle.sender_bytes.specs.Places.{record_length, transfer_length, course_length, transfer_place, course_place, own_place, limit_place, last_place, state_place}
 use Rattle.sender_bytes.specs.Places.{da_place, session_place, total_place, pgn_place, complete_place, reported_place, owed_place, next_place, granted_place, mark_place}
 
 -- ---- a transfer
 
-abbrev pub flag_byte : Bool → ℕ
-flag_byte true = 1
-flag_byte false = 0
-
--- any other byte than 1 is no
+-- a flag is 1 or 0; any other byte than 1 is no
 abbrev pub flag_at : ℕ → Bool
 flag_at n = eqb n 1
 
@@ -32,9 +27,9 @@ offer_bytes o = 1 ∷ o.key.da.0 ∷ o.key.session.0 ∷ low4 o.total.0 (low4 o.
 -- the last segment has gone out, an EOMS has, one is owed; next segment, last granted, mark
 abbrev pub course_bytes : Course → List ℕ
 course_bytes c =
-    flag_byte c.complete
-    ∷ flag_byte c.reported
-    ∷ flag_byte c.owed
+    from_bool c.complete
+    ∷ from_bool c.reported
+    ∷ from_bool c.owed
     ∷ low4 c.next.0 (low4 c.granted.0 (low4 c.mark []))
 
 abbrev pub transfer_bytes : Transfer → List ℕ
@@ -63,8 +58,8 @@ abbrev pub transfer_at : Address → List ℕ → Transfer
 transfer_at own p = record { offer = offer_at own p; course = course_at p }
 
 -- any other first byte than 1 is free, whatever follows
-abbrev pub state_at : Address → List ℕ → State
-state_at own p = cond (eqb (get_or p state_place 0) 1) (Open (transfer_at own p)) Closed
+abbrev pub state_at : Address → List ℕ → Option Transfer
+state_at own p = cond (eqb (get_or p state_place 0) 1) (Some (transfer_at own p)) None
 
 -- ---- the record
 
@@ -72,7 +67,7 @@ pub record Sender : Type 0 where
   pub own : Address
   pub limit : ℕ
   pub last : ℕ
-  pub transfers : List State
+  pub transfers : List (Option Transfer)
 
 abbrev pub piece_at : List ℕ → ℕ → List ℕ
 piece_at b i = take transfer_length (drop (transfer_place i) b)
@@ -80,7 +75,7 @@ piece_at b i = take transfer_length (drop (transfer_place i) b)
 abbrev pub own_at : List ℕ → Address
 own_at b = record { 0 = get_or b own_place 0 }
 
-unfoldable pub transfers_at : List ℕ → List State
+unfoldable pub transfers_at : List ℕ → List (Option Transfer)
 transfers_at b =
     state_at (own_at b) (piece_at b 0)
     ∷ state_at (own_at b) (piece_at b 1)
@@ -93,16 +88,16 @@ sender_at b = record { own = own_at b; limit = low32 b limit_place; last = low32
 
 -- ---- what a call changes of it
 
-abbrev pub changed : List ℕ → ℕ → Change → List ℕ
+abbrev pub changed : List ℕ → ℕ → Change Transfer Course → List ℕ
 changed b i Stays = b
 changed b i (Opens t) = paste b (transfer_place i) (transfer_bytes t) transfer_length
 changed b i (Moves c) = paste b (course_place i) (course_bytes c) course_length
 changed b i Ends = paste b (transfer_place i) (0 ∷ []) 1
 
 -- the same of the record
-abbrev pub with_transfer : Sender → ℕ → Change → Sender
+abbrev pub with_transfer : Sender → ℕ → Change Transfer Course → Sender
 with_transfer s i c =
-    record { own = s.own; limit = s.limit; last = s.last; transfers = set s.transfers i (after (get_or s.transfers i Closed) c) }
+    record { own = s.own; limit = s.limit; last = s.last; transfers = set s.transfers i (after (get_or s.transfers i None) c) }
 
 -- ---- the opening: a buffer of a record's length takes it; any other is left as it is
 

@@ -8,7 +8,7 @@ use super::places::{
     STATE_AT, TOTAL_AT,
 };
 use frame::{Address, ByteCount, SegmentNumber, SessionNumber};
-use transfer::{Course, Offer, State, Transfer};
+use transfer::{Course, Offer, Transfer};
 use transport::Key;
 use words::word_at;
 
@@ -39,12 +39,9 @@ pub fn transfer_at(own: Address, piece: &[u8]) -> Transfer
 }
 
 // What a piece says.
-pub fn state_at(own: Address, piece: &[u8]) -> State
+pub fn state_at(own: Address, piece: &[u8]) -> Option<Transfer>
     requires { length piece.now ≡ transfer_length }
     ensures { result ≡ state_at own piece.now }
 {
-    if piece[STATE_AT] == 1 {
-        return State::Open(transfer_at(own, piece));
-    }
-    State::Closed
+    (piece[STATE_AT] == 1).then(|| transfer_at(own, piece))
 }

@@ -1,6 +1,6 @@
 -- The numbers of every decision have their place in four bytes, where those of the session have: what is opened or moved, and what is
 -- answered. Nothing here but the definitions needs to be believed.
-use Rattle.std.specs.Prelude.{ℕ, ◌<◌, min, Bool, true, false, cond}
+use Rattle.std.specs.Prelude.{ℕ, ◌<◌, min, Bool, true, false, cond, Err, None, Ok, Option, Result, Some, ⊤}
 use Rattle.std.proofs.Common.{arith}
 use Rattle.frame.specs.declared.refusal.Refusal.{Refusal}
 use Rattle.frame.specs.declared.refusal.Refusal.TheVariants.{AnnouncementForm, KeyOpen, SlotsFull}
@@ -10,13 +10,10 @@ use Rattle.transport.specs.declared.announcement.Announcement.{Announcement}
 use Rattle.answer.specs.declared.Answer.{Answer}
 use Rattle.answer.specs.declared.Answer.TheVariants as answer
 use Rattle.progress.specs.Forward.{grant_of}
-use Rattle.session.specs.declared.State.{State}
-use Rattle.session.specs.declared.State.TheVariants.{Closed, Open}
-use Rattle.session.specs.declared.announcement.Form.{Form}
-use Rattle.session.specs.declared.announcement.Form.TheVariants as form
 use Rattle.session.specs.Announcements.{misdirected, form_of, first_granted, session_of}
 use Rattle.session.specs.Decisions.{stays, rejection, accepted_if, is_restart, for_key, on_form, announced_to}
 use Rattle.session.specs.Fits.{Small, ProgressSmall, AnswerFits, StepFits, small_if}
+use Rattle.session.specs.declared.Session.{Session}
 
 either : (t : Bool) (a b : Answer) → AnswerFits a → AnswerFits b → AnswerFits (cond t a b)
 either true a b p q = p
@@ -51,15 +48,15 @@ module _ (k : Key) (a : Announcement) (last : ℕ) (p : Small a.pgn) (g : Small 
   accepted_fits false n = rejects k a n p
   accepted_fits true n = record { change = opened_small k a last g l; answer = either (is_rts a.kind) _ _ (omega arith, p) tt }
 
-  for_key_fits : (x : State) (room : Bool) → StepFits (for_key x room k a last)
-  for_key_fits (Open s) room = accepted_fits (is_restart s a) KeyOpen
-  for_key_fits Closed room = accepted_fits room SlotsFull
+  for_key_fits : (x : Option Session) (room : Bool) → StepFits (for_key x room k a last)
+  for_key_fits (Some s) room = accepted_fits (is_restart s a) KeyOpen
+  for_key_fits None room = accepted_fits room SlotsFull
 
-  pub announce_fits : (x : State) (room : Bool) → StepFits (announced_to x room k a last)
+  pub announce_fits : (x : Option Session) (room : Bool) → StepFits (announced_to x room k a last)
   unfolding announced_to
   announce_fits x room = go (misdirected k.da a.kind) (form_of a)
     where
-      go : (t : Bool) (f : Form) → StepFits (cond t (stays (answer.Refused AnnouncementForm)) (on_form f x room k a last))
+      go : (t : Bool) (f : Result ⊤ Refusal) → StepFits (cond t (stays (answer.Refused AnnouncementForm)) (on_form f x room k a last))
       go true f = record { change = tt; answer = tt }
-      go false form.Good = for_key_fits x room
-      go false (form.Bad n) = rejects k a n p
+      go false (Ok tt) = for_key_fits x room
+      go false (Err n) = rejects k a n p

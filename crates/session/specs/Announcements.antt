@@ -1,5 +1,5 @@
 -- An announcement judged, and the session that it opens: 01, "Announcement"; 02, E6.
-use Rattle.std.specs.Prelude.{ℕ, ◌+◌, ◌/◌, Bool, cond, not, ◌&&◌, ◌||◌, ◌==◌, nat_lt}
+use Rattle.std.specs.Prelude.{ℕ, ◌+◌, ◌/◌, Bool, cond, not, ◌&&◌, ◌||◌, ◌==◌, nat_lt, Err, Ok, Result, ⊤}
 use Rattle.frame.specs.Pgn.{pgn_ok}
 use Rattle.transport.specs.Kinds.{is_rts}
 use Rattle.segments.specs.Model.{none_in}
@@ -15,8 +15,6 @@ use Rattle.transport.specs.declared.Kind.TheVariants.{Rts, Bam}
 use Rattle.transport.specs.declared.announcement.Announcement.{Announcement}
 use Rattle.transport.specs.declared.cts.Cts.{Cts}
 use Rattle.session.specs.declared.Session.{Session}
-use Rattle.session.specs.declared.announcement.Form.{Form}
-use Rattle.session.specs.declared.announcement.Form.TheVariants.{Good, Bad}
 
 -- RTS to 255, or BAM to the own address; a frame that is taken has no other DA
 abbrev pub misdirected : Address → Kind → Bool
@@ -31,13 +29,13 @@ bad_numbers a =
     || (is_rts a.kind && a.max == 0)
 
 -- 11, 12, 13, 8
-unfoldable pub form_of : Announcement → Form
+unfoldable pub form_of : Announcement → Result ⊤ Refusal
 form_of a =
-    cond (bad_numbers a) (Bad AnnouncementForm)
-    (cond (nat_lt 4096 a.total.0) (Bad TooLong)
-    (cond (not (a.assurance == 0)) (Bad Assurance)
-    (cond (not (pgn_ok a.pgn)) (Bad PgnForm)
-    Good)))
+    cond (bad_numbers a) (Err AnnouncementForm)
+    (cond (nat_lt 4096 a.total.0) (Err TooLong)
+    (cond (not (a.assurance == 0)) (Err Assurance)
+    (cond (not (pgn_ok a.pgn)) (Err PgnForm)
+    (Ok tt))))
 
 -- the last segment of the first grant; a BAM has none
 abbrev pub first_granted : Announcement → ℕ

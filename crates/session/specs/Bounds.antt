@@ -1,5 +1,5 @@
 -- When an open session is in bounds: 01, "Numbered refusals"; 02, E4 and E6.
-use Rattle.std.specs.Prelude.{◌≡◌, ℕ, ◌+◌, ◌/◌, ◌≤◌, Bool, true, false, cond, not, ◌&&◌, ◌||◌, ◌==◌, nat_le}
+use Rattle.std.specs.Prelude.{◌≡◌, ℕ, ◌+◌, ◌/◌, ◌≤◌, Bool, true, false, cond, not, ◌&&◌, ◌||◌, ◌==◌, nat_le, None, Option, Some}
 use Rattle.segments.specs.declared.Segments.{Segments}
 use Rattle.segments.specs.Model.{agrees}
 use Rattle.frame.specs.declared.Address.{Address}
@@ -12,8 +12,6 @@ use Rattle.progress.specs.declared.Progress.{Progress}
 use Rattle.progress.specs.declared.wait.Wait.{Wait}
 use Rattle.progress.specs.Waits.{is_second}
 use Rattle.session.specs.declared.Session.{Session}
-use Rattle.session.specs.declared.State.{State}
-use Rattle.session.specs.declared.State.TheVariants.{Closed, Open}
 
 -- Total Bytes, segment count and PGN as an announcement allows, MAX SGMTS at least 1 for RTS
 abbrev pub counts_ok : ℕ → ℕ → ℕ → Bool → ℕ → Bool
@@ -50,9 +48,9 @@ progress_ok a p =
 abbrev pub session_ok : Address → Session → Bool
 session_ok own s = announced_ok s.announced && key_ok own s.announced && progress_ok s.announced s.progress
 
-abbrev pub state_ok : Address → State → Bool
-state_ok own Closed = true
-state_ok own (Open s) = session_ok own s
+abbrev pub state_ok : Address → Option Session → Bool
+state_ok own None = true
+state_ok own (Some s) = session_ok own s
 
 -- the same as facts
 

@@ -1,6 +1,6 @@
 -- What a frame or a reading makes of one session, and what is answered: 01, "Life of a session", as 02 changes it. A session that is not
 -- open is Closed.
-use Rattle.std.specs.Prelude.{ℕ, Bool, cond, not, ◌&&◌, ◌==◌, nat_lt}
+use Rattle.std.specs.Prelude.{ℕ, Bool, cond, not, ◌&&◌, ◌==◌, nat_lt, Err, None, Ok, Option, Result, Some, ⊤}
 use Rattle.frame.specs.declared.refusal.Refusal.{Refusal}
 use Rattle.frame.specs.declared.refusal.Refusal.TheVariants.{AnnouncementForm, KeyOpen, SlotsFull, KeyNotOpen, FormatIndicator, StatusMismatch, RequestsSpent, Silence}
 use Rattle.transport.specs.Kinds.{is_rts}
@@ -12,21 +12,15 @@ use Rattle.answer.specs.declared.Answer.{Answer}
 use Rattle.answer.specs.declared.Answer.TheVariants as answer
 use Rattle.answer.specs.declared.Ending.{Ending}
 use Rattle.answer.specs.declared.Message.{Message}
-use Rattle.answer.specs.declared.End.{End}
-use Rattle.answer.specs.declared.End.TheVariants as end
 use Rattle.progress.specs.declared.Progress.{Progress}
 use Rattle.progress.specs.Forward.{cts_due, advanced_by}
 use Rattle.progress.specs.Requests.{requested_by}
 use Rattle.progress.specs.Waits.{limit_in}
 use Rattle.progress.specs.declared.wait.IdleLimits.{IdleLimits}
 use Rattle.session.specs.declared.Session.{Session}
-use Rattle.session.specs.declared.State.{State}
-use Rattle.session.specs.declared.State.TheVariants.{Closed, Open}
 use Rattle.session.specs.declared.Change.{Change}
 use Rattle.session.specs.declared.Change.TheVariants.{Stays, Opens, Moves, Ends}
 use Rattle.session.specs.declared.Step.{Step}
-use Rattle.session.specs.declared.announcement.Form.{Form}
-use Rattle.session.specs.declared.announcement.Form.TheVariants as form
 use Rattle.session.specs.declared.segment.Judged.{Judged}
 use Rattle.session.specs.declared.segment.Judged.TheVariants as judged
 use Rattle.session.specs.Announcements.{misdirected, form_of, session_of, first_cts}
@@ -35,15 +29,15 @@ use Rattle.session.specs.Ends.{status_matches, all_in, request_cts, is_idle}
 
 -- ---- what is known of a key after a change
 
-abbrev pub moved : State → Progress → State
-moved Closed p = Closed
-moved (Open s) p = Open (record { announced = s.announced; progress = p })
+abbrev pub moved : Option Session → Progress → Option Session
+moved None p = None
+moved (Some s) p = Some (record { announced = s.announced; progress = p })
 
-abbrev pub after : State → Change → State
+abbrev pub after : Option Session → Change Session Progress → Option Session
 after x Stays = x
-after x (Opens s) = Open s
+after x (Opens s) = Some s
 after x (Moves p) = moved x p
-after x Ends = Closed
+after x Ends = None
 
 -- ---- steps
 
@@ -55,9 +49,9 @@ abbrev pub refused : Refusal → Step
 refused n = stays (answer.Refused n)
 
 -- by the open session, if there is one; else 16
-abbrev pub if_open : State → (Session → Step) → Step
-if_open Closed f = refused KeyNotOpen
-if_open (Open s) f = f s
+abbrev pub if_open : Option Session → (Session → Step) → Step
+if_open None f = refused KeyNotOpen
+if_open (Some s) f = f s
 
 -- ---- a refusal that ends the session
 
@@ -90,16 +84,16 @@ abbrev pub is_restart : Session → Announcement → Bool
 is_restart s a = is_rts a.kind && a.pgn == s.announced.pgn
 
 -- an open key takes a restart, whether or not there is a slot free, and is 14 to all else; a closed one is 15 where there is no slot
-abbrev pub for_key : State → Bool → Key → Announcement → ℕ → Step
-for_key (Open s) room k a last = accepted_if (is_restart s a) KeyOpen k a last
-for_key Closed room k a last = accepted_if room SlotsFull k a last
+abbrev pub for_key : Option Session → Bool → Key → Announcement → ℕ → Step
+for_key (Some s) room k a last = accepted_if (is_restart s a) KeyOpen k a last
+for_key None room k a last = accepted_if room SlotsFull k a last
 
-abbrev pub on_form : Form → State → Bool → Key → Announcement → ℕ → Step
-on_form form.Good x room k a last = for_key x room k a last
-on_form (form.Bad n) x room k a last = stays (rejection k a n)
+abbrev pub on_form : Result ⊤ Refusal → Option Session → Bool → Key → Announcement → ℕ → Step
+on_form (Ok tt) x room k a last = for_key x room k a last
+on_form (Err n) x room k a last = stays (rejection k a n)
 
 -- 11 with nothing sent for a wrong destination; 11, 12, 13, 8; then by the key's session
-unfoldable pub announced_to : State → Bool → Key → Announcement → ℕ → Step
+unfoldable pub announced_to : Option Session → Bool → Key → Announcement → ℕ → Step
 announced_to x room k a last =
     cond (misdirected k.da a.kind) (refused AnnouncementForm) (on_form (form_of a) x room k a last)
 
@@ -122,7 +116,7 @@ abbrev pub segment_open : Session → ℕ → ℕ → ℕ → Step
 segment_open s n room last = on_judged (judged_of s n room) s n last
 
 -- 17, 16, then the open session's judgement
-unfoldable pub segment_to : State → Segment → ℕ → Step
+unfoldable pub segment_to : Option Session → Segment → ℕ → Step
 segment_to x sg last =
     cond (not (sg.format == 0)) (refused FormatIndicator)
     (if_open x (λ s. segment_open s sg.number.0 sg.room last))
@@ -162,7 +156,7 @@ abbrev pub status_open : Session → ℕ → Status → ℕ → Step
 status_open s slot st last =
     cond (status_matches s st) (cond (all_in s) (hands_over slot s) (lacks s last)) (ended s StatusMismatch)
 
-unfoldable pub status_to : State → ℕ → Status → ℕ → Step
+unfoldable pub status_to : Option Session → ℕ → Status → ℕ → Step
 status_to x slot st last = if_open x (λ s. status_open s slot st last)
 
 -- one of another PGN is 16
@@ -171,7 +165,7 @@ abort_open s pgn =
     cond (pgn == s.announced.pgn) (record { change = Ends; answer = answer.Aborted s.announced.key })
     (refused KeyNotOpen)
 
-unfoldable pub abort_to : State → ℕ → Step
+unfoldable pub abort_to : Option Session → ℕ → Step
 abort_to x pgn = if_open x (λ s. abort_open s pgn)
 
 -- ---- a reading: the session stays, or ends with 22
@@ -179,5 +173,5 @@ abort_to x pgn = if_open x (λ s. abort_open s pgn)
 abbrev pub is_silent : IdleLimits → ℕ → Session → Bool
 is_silent limits t s = is_idle (limit_in limits s.progress.wait) s.progress.mark t
 
-abbrev pub end_at : IdleLimits → ℕ → Session → End
-end_at limits t s = cond (is_silent limits t s) (end.Ended (ending_of s Silence)) end.Stays
+abbrev pub end_at : IdleLimits → ℕ → Session → Option Ending
+end_at limits t s = cond (is_silent limits t s) (Some (ending_of s Silence)) None

@@ -1,6 +1,6 @@
 -- What every decision does, by its change and the number of its answer: 01, "Numbered refusals". The laws about calls are laws about these
 -- cases. Nothing here but the three definitions needs to be believed.
-use Rattle.std.specs.Prelude.{◌≡◌, ℕ, Bool, true, false, cond, not, ◌||◌, ◌⊎◌, ◌==◌, nat_lt, refl}
+use Rattle.std.specs.Prelude.{◌≡◌, ℕ, Bool, true, false, cond, not, ◌||◌, ◌⊎◌, ◌==◌, nat_lt, refl, Err, None, Ok, Option, Result, Some, ⊤}
 use Rattle.std.proofs.Common.{inl, inr}
 use Rattle.frame.specs.Refusals.{number_of}
 use Rattle.frame.specs.declared.refusal.Refusal.{Refusal}
@@ -15,12 +15,8 @@ use Rattle.answer.specs.declared.Answer.TheVariants as answer
 use Rattle.answer.specs.Answers.{answer_number}
 use Rattle.progress.specs.Forward.{cts_due, advanced_by}
 use Rattle.session.specs.declared.Session.{Session}
-use Rattle.session.specs.declared.State.{State}
-use Rattle.session.specs.declared.State.TheVariants.{Closed, Open}
 use Rattle.session.specs.declared.Change.TheVariants.{Stays, Moves, Ends}
 use Rattle.session.specs.declared.Step.{Step}
-use Rattle.session.specs.declared.announcement.Form.{Form}
-use Rattle.session.specs.declared.announcement.Form.TheVariants as form
 use Rattle.session.specs.declared.segment.Judged.{Judged}
 use Rattle.session.specs.declared.segment.Judged.TheVariants as judged
 use Rattle.session.specs.Announcements.{misdirected, form_of}
@@ -33,15 +29,15 @@ abbrev pub mild : ℕ → Bool
 mild n = not (n == 19 || n == 21 || n == 23)
 
 -- a decision refuses nothing, or changes nothing, or ends the open session with 19 or 21
-pub data Effect (x : State) (st : Step) : Type 0 where
+pub data Effect (x : Option Session) (st : Step) : Type 0 where
   accepts : answer_number st.answer ≡ 0 → Effect x st
   keeps : st.change ≡ Stays → mild (answer_number st.answer) ≡ true → Effect x st
-  ends : (s : Session) (n : Refusal) → x ≡ Open s → (number_of n ≡ 19) ⊎ (number_of n ≡ 21) → st ≡ ended s n → Effect x st
+  ends : (s : Session) (n : Refusal) → x ≡ Some s → (number_of n ≡ 19) ⊎ (number_of n ≡ 21) → st ≡ ended s n → Effect x st
 
 -- an answer that hands over gives the message of the open session
-abbrev pub Hands : State → ℕ → Answer → Type 0
-Hands (Open s) slot (answer.HandedOver m) = m ≡ message_of slot s
-Hands Closed slot (answer.HandedOver m) = ⊥
+abbrev pub Hands : Option Session → ℕ → Answer → Type 0
+Hands (Some s) slot (answer.HandedOver m) = m ≡ message_of slot s
+Hands None slot (answer.HandedOver m) = ⊥
 Hands x slot (answer.Groups route) = Unit {0}
 Hands x slot (answer.Opened k) = Unit {0}
 Hands x slot (answer.Taken t) = Unit {0}
@@ -51,102 +47,102 @@ Hands x slot (answer.Ended e) = Unit {0}
 Hands x slot (answer.RefusedRts j) = Unit {0}
 Hands x slot (answer.Refused n) = Unit {0}
 
-pub refuses : (x : State) (a : Answer) → mild (answer_number a) ≡ true → Effect x (stays a)
+pub refuses : (x : Option Session) (a : Answer) → mild (answer_number a) ≡ true → Effect x (stays a)
 refuses x a e = keeps refl e
 
 -- only 19 ends a session at a segment
-segment_open_lem : (s : Session) (n room last : ℕ) → Effect (Open s) (on_judged (judged_of s n room) s n last)
+segment_open_lem : (s : Session) (n room last : ℕ) → Effect (Some s) (on_judged (judged_of s n room) s n last)
 unfolding judged_of
 segment_open_lem s n room last =
     go (n == 0 || already_in s n) (out_of_turn s n || nat_lt s.announced.segments.0 n) (nat_lt room (due_of s.announced.total.0 n))
   where
-    taken : (t : Bool) → Effect (Open s) (record {
+    taken : (t : Bool) → Effect (Some s) (record {
       change = Moves (advanced_by s.progress s.announced n last);
       answer = cond t (answer.Grant (next_cts s.announced n)) (answer.Taken (record { key = s.announced.key; number = record { 0 = n } }));
     })
     taken true = accepts refl
     taken false = accepts refl
 
-    go : (a b c : Bool) → Effect (Open s) (on_judged (cond a (judged.Refused AlreadyTaken) (cond b (judged.Ends OutOfSequence) (cond c (judged.Refused SegmentCut) judged.Takes))) s n last)
-    go true b c = refuses (Open s) (answer.Refused AlreadyTaken) refl
+    go : (a b c : Bool) → Effect (Some s) (on_judged (cond a (judged.Refused AlreadyTaken) (cond b (judged.Ends OutOfSequence) (cond c (judged.Refused SegmentCut) judged.Takes))) s n last)
+    go true b c = refuses (Some s) (answer.Refused AlreadyTaken) refl
     go false true c = ends s OutOfSequence refl (inl refl) refl
-    go false false true = refuses (Open s) (answer.Refused SegmentCut) refl
+    go false false true = refuses (Some s) (answer.Refused SegmentCut) refl
     go false false false = taken (cts_due s.progress s.announced n)
 
-pub segment_effect : (x : State) (sg : Segment) (last : ℕ) → Effect x (segment_to x sg last)
+pub segment_effect : (x : Option Session) (sg : Segment) (last : ℕ) → Effect x (segment_to x sg last)
 unfolding segment_to
 segment_effect x sg last = go x (not (sg.format == 0))
   where
-    go : (x : State) (t : Bool) → Effect x (cond t (stays (answer.Refused FormatIndicator)) (if_open x (λ s. segment_open s sg.number.0 sg.room last)))
+    go : (x : Option Session) (t : Bool) → Effect x (cond t (stays (answer.Refused FormatIndicator)) (if_open x (λ s. segment_open s sg.number.0 sg.room last)))
     go x true = refuses x (answer.Refused FormatIndicator) refl
-    go Closed false = refuses Closed (answer.Refused KeyNotOpen) refl
-    go (Open s) false = segment_open_lem s sg.number.0 sg.room last
+    go None false = refuses None (answer.Refused KeyNotOpen) refl
+    go (Some s) false = segment_open_lem s sg.number.0 sg.room last
 
-pub status_effect : (x : State) (slot : ℕ) (st : Status) (last : ℕ) → Effect x (status_to x slot st last)
+pub status_effect : (x : Option Session) (slot : ℕ) (st : Status) (last : ℕ) → Effect x (status_to x slot st last)
 unfolding status_to
-status_effect Closed slot st last = refuses Closed (answer.Refused KeyNotOpen) refl
-status_effect (Open s) slot st last =
-    by_status (Effect (Open s)) s slot st last (ends s StatusMismatch refl (inr refl) refl) (λ _ _. accepts refl) (λ _ _ _. accepts refl) (ends s RequestsSpent refl (inr refl) refl)
+status_effect None slot st last = refuses None (answer.Refused KeyNotOpen) refl
+status_effect (Some s) slot st last =
+    by_status (Effect (Some s)) s slot st last (ends s StatusMismatch refl (inr refl) refl) (λ _ _. accepts refl) (λ _ _ _. accepts refl) (ends s RequestsSpent refl (inr refl) refl)
 
-pub abort_effect : (x : State) (pgn : ℕ) → Effect x (abort_to x pgn)
+pub abort_effect : (x : Option Session) (pgn : ℕ) → Effect x (abort_to x pgn)
 unfolding abort_to
-abort_effect Closed pgn = refuses Closed (answer.Refused KeyNotOpen) refl
-abort_effect (Open s) pgn = go (pgn == s.announced.pgn)
+abort_effect None pgn = refuses None (answer.Refused KeyNotOpen) refl
+abort_effect (Some s) pgn = go (pgn == s.announced.pgn)
   where
-    go : (t : Bool) → Effect (Open s) (cond t (record { change = Ends; answer = answer.Aborted s.announced.key }) (stays (answer.Refused KeyNotOpen)))
+    go : (t : Bool) → Effect (Some s) (cond t (record { change = Ends; answer = answer.Aborted s.announced.key }) (stays (answer.Refused KeyNotOpen)))
     go true = accepts refl
-    go false = refuses (Open s) (answer.Refused KeyNotOpen) refl
+    go false = refuses (Some s) (answer.Refused KeyNotOpen) refl
 
 -- ---- a message handed over: only by an EOMS, and of the open session
 
-either : (x : State) (slot : ℕ) (t : Bool) (a b : Answer) → Hands x slot a → Hands x slot b → Hands x slot (cond t a b)
+either : (x : Option Session) (slot : ℕ) (t : Bool) (a b : Answer) → Hands x slot a → Hands x slot b → Hands x slot (cond t a b)
 either x slot true a b p q = p
 either x slot false a b p q = q
 
-quiet_reject : (x : State) (slot : ℕ) (k : Key) (a : Announcement) (n : Refusal) → Hands x slot (rejection k a n)
+quiet_reject : (x : Option Session) (slot : ℕ) (k : Key) (a : Announcement) (n : Refusal) → Hands x slot (rejection k a n)
 quiet_reject x slot k a n = either x slot (is_rts a.kind) _ _ tt tt
 
-pub announce_hands : (x : State) (room : Bool) (slot : ℕ) (k : Key) (a : Announcement) (last : ℕ) → Hands x slot (announced_to x room k a last).answer
+pub announce_hands : (x : Option Session) (room : Bool) (slot : ℕ) (k : Key) (a : Announcement) (last : ℕ) → Hands x slot (announced_to x room k a last).answer
 unfolding announced_to
 announce_hands x room slot k a last = go (misdirected k.da a.kind) (form_of a)
   where
-    accepted : (x : State) (t : Bool) (n : Refusal) → Hands x slot (accepted_if t n k a last).answer
+    accepted : (x : Option Session) (t : Bool) (n : Refusal) → Hands x slot (accepted_if t n k a last).answer
     accepted x true n = either x slot (is_rts a.kind) _ _ tt tt
     accepted x false n = quiet_reject x slot k a n
 
-    for_key_lem : (x : State) (room : Bool) → Hands x slot (for_key x room k a last).answer
-    for_key_lem (Open s) room = accepted (Open s) (is_restart s a) KeyOpen
-    for_key_lem Closed room = accepted Closed room SlotsFull
+    for_key_lem : (x : Option Session) (room : Bool) → Hands x slot (for_key x room k a last).answer
+    for_key_lem (Some s) room = accepted (Some s) (is_restart s a) KeyOpen
+    for_key_lem None room = accepted None room SlotsFull
 
-    go : (t : Bool) (f : Form) → Hands x slot (cond t (stays (answer.Refused AnnouncementForm)) (on_form f x room k a last)).answer
+    go : (t : Bool) (f : Result ⊤ Refusal) → Hands x slot (cond t (stays (answer.Refused AnnouncementForm)) (on_form f x room k a last)).answer
     go true f = tt
-    go false form.Good = for_key_lem x room
-    go false (form.Bad n) = quiet_reject x slot k a n
+    go false (Ok tt) = for_key_lem x room
+    go false (Err n) = quiet_reject x slot k a n
 
-pub segment_hands : (x : State) (slot : ℕ) (sg : Segment) (last : ℕ) → Hands x slot (segment_to x sg last).answer
+pub segment_hands : (x : Option Session) (slot : ℕ) (sg : Segment) (last : ℕ) → Hands x slot (segment_to x sg last).answer
 unfolding segment_to
 segment_hands x slot sg last = go x (not (sg.format == 0))
   where
-    judges : (s : Session) (j : Judged) → Hands (Open s) slot (on_judged j s sg.number.0 last).answer
+    judges : (s : Session) (j : Judged) → Hands (Some s) slot (on_judged j s sg.number.0 last).answer
     judges s (judged.Refused n) = tt
     judges s (judged.Ends n) = tt
-    judges s judged.Takes = either (Open s) slot (cts_due s.progress s.announced sg.number.0) _ _ tt tt
+    judges s judged.Takes = either (Some s) slot (cts_due s.progress s.announced sg.number.0) _ _ tt tt
 
-    go : (x : State) (t : Bool) → Hands x slot (cond t (stays (answer.Refused FormatIndicator)) (if_open x (λ s. segment_open s sg.number.0 sg.room last))).answer
+    go : (x : Option Session) (t : Bool) → Hands x slot (cond t (stays (answer.Refused FormatIndicator)) (if_open x (λ s. segment_open s sg.number.0 sg.room last))).answer
     go x true = tt
-    go Closed false = tt
-    go (Open s) false = judges s (judged_of s sg.number.0 sg.room)
+    go None false = tt
+    go (Some s) false = judges s (judged_of s sg.number.0 sg.room)
 
-pub status_hands : (x : State) (slot : ℕ) (st : Status) (last : ℕ) → Hands x slot (status_to x slot st last).answer
+pub status_hands : (x : Option Session) (slot : ℕ) (st : Status) (last : ℕ) → Hands x slot (status_to x slot st last).answer
 unfolding status_to
-status_hands Closed slot st last = tt
-status_hands (Open s) slot st last = by_status (λ (r : Step). Hands (Open s) slot r.answer) s slot st last tt (λ _ _. refl) (λ _ _ _. tt) tt
+status_hands None slot st last = tt
+status_hands (Some s) slot st last = by_status (λ (r : Step). Hands (Some s) slot r.answer) s slot st last tt (λ _ _. refl) (λ _ _ _. tt) tt
 
-pub abort_hands : (x : State) (slot pgn : ℕ) → Hands x slot (abort_to x pgn).answer
+pub abort_hands : (x : Option Session) (slot pgn : ℕ) → Hands x slot (abort_to x pgn).answer
 unfolding abort_to
-abort_hands Closed slot pgn = tt
-abort_hands (Open s) slot pgn = go (pgn == s.announced.pgn)
+abort_hands None slot pgn = tt
+abort_hands (Some s) slot pgn = go (pgn == s.announced.pgn)
   where
-    go : (t : Bool) → Hands (Open s) slot (cond t (record { change = Ends; answer = answer.Aborted s.announced.key }) (stays (answer.Refused KeyNotOpen))).answer
+    go : (t : Bool) → Hands (Some s) slot (cond t (record { change = Ends; answer = answer.Aborted s.announced.key }) (stays (answer.Refused KeyNotOpen))).answer
     go true = tt
     go false = tt

@@ -1,6 +1,6 @@
 -- The numbers of every decision have their place in four bytes, where those of the session have: what is opened or moved, and what is
 -- answered. Nothing here but the definitions needs to be believed.
-use Rattle.std.specs.Prelude.{◌≡◌, ℕ, ◌+◌, ◌-◌, ◌^◌, ◌<◌, ◌≤◌, min, Bool, true, false, cond, not, ◌&&◌, ltb, ◌==◌, nat_eq, nat_lt, refl}
+use Rattle.std.specs.Prelude.{◌≡◌, ℕ, ◌+◌, ◌-◌, ◌^◌, ◌<◌, ◌≤◌, min, Bool, true, false, cond, not, ◌&&◌, ltb, ◌==◌, nat_eq, nat_lt, refl, None, Option, Some}
 use Rattle.std.proofs.Common.{arith, ltb-true}
 use mathlib.Mathlib.Data.Bool.Basic.{and_elim_left, and_elim_right}
 use Rattle.segments.specs.declared.Segments.{Segments}
@@ -17,8 +17,6 @@ use Rattle.progress.specs.Forward.{grant_of, cts_due, granted_by, advanced_by}
 use Rattle.progress.specs.Requests.{asked_count}
 use Rattle.progress.specs.Asked.{asked_to_lem}
 use Rattle.session.specs.declared.Session.{Session}
-use Rattle.session.specs.declared.State.{State}
-use Rattle.session.specs.declared.State.TheVariants.{Closed, Open}
 use Rattle.session.specs.declared.Change.{Change}
 use Rattle.session.specs.declared.Change.TheVariants.{Stays, Opens, Moves, Ends}
 use Rattle.session.specs.declared.Step.{Step}
@@ -47,11 +45,11 @@ pub record SessionSmall (s : Session) : Type 0 where
   pub pgn : Small s.announced.pgn
   pub progress : ProgressSmall s.progress
 
-abbrev pub StateSmall : State → Type 0
-StateSmall Closed = Unit {0}
-StateSmall (Open s) = SessionSmall s
+abbrev pub StateSmall : Option Session → Type 0
+StateSmall None = Unit {0}
+StateSmall (Some s) = SessionSmall s
 
-abbrev pub ChangeFits : Change → Type 0
+abbrev pub ChangeFits : Change Session Progress → Type 0
 ChangeFits Stays = Unit {0}
 ChangeFits (Opens s) = ProgressSmall s.progress
 ChangeFits (Moves p) = ProgressSmall p
@@ -134,14 +132,14 @@ judges s n room last h few l = go (judged_of s n room)
     go (judged.Ends x) = record { change = tt; answer = h.pgn }
     go judged.Takes = record { change = advanced_small s n last h few l; answer = grants (cts_due s.progress s.announced n) refl }
 
-pub segment_fits : (x : State) (sg : Segment) (last : ℕ) → StateSmall x → sg.number.0 < 16777216 → Small last → StepFits (segment_to x sg last)
+pub segment_fits : (x : Option Session) (sg : Segment) (last : ℕ) → StateSmall x → sg.number.0 < 16777216 → Small last → StepFits (segment_to x sg last)
 unfolding segment_to
 segment_fits x sg last h few l = go x h (not (sg.format == 0))
   where
-    go : (x : State) → StateSmall x → (t : Bool) → StepFits (cond t (stays (answer.Refused FormatIndicator)) (if_open x (λ s. segment_open s sg.number.0 sg.room last)))
+    go : (x : Option Session) → StateSmall x → (t : Bool) → StepFits (cond t (stays (answer.Refused FormatIndicator)) (if_open x (λ s. segment_open s sg.number.0 sg.room last)))
     go x h true = record { change = tt; answer = tt }
-    go Closed h false = record { change = tt; answer = tt }
-    go (Open s) h false = judges s sg.number.0 sg.room last h few l
+    go None h false = record { change = tt; answer = tt }
+    go (Some s) h false = judges s sg.number.0 sg.room last h few l
 
 -- ---- the end
 
@@ -168,17 +166,17 @@ asked_small s last h few l =
       answer = (omega arith, h.pgn);
     }
 
-pub status_fits : (x : State) (slot : ℕ) (st : Status) (last : ℕ) → StateSmall x → slot < 256 → Small last → StepFits (status_to x slot st last)
+pub status_fits : (x : Option Session) (slot : ℕ) (st : Status) (last : ℕ) → StateSmall x → slot < 256 → Small last → StepFits (status_to x slot st last)
 unfolding status_to
-status_fits Closed slot st last h u l = record { change = tt; answer = tt }
-status_fits (Open s) slot st last h u l =
+status_fits None slot st last h u l = record { change = tt; answer = tt }
+status_fits (Some s) slot st last h u l =
     by_status StepFits s slot st last (record { change = tt; answer = h.pgn }) (λ _ _. record { change = tt; answer = (h.total, (h.segments, (h.pgn, u))) })
     (λ _ _ few. asked_small s last h few l) (record { change = tt; answer = h.pgn })
 
-pub abort_fits : (x : State) (pgn : ℕ) → StepFits (abort_to x pgn)
+pub abort_fits : (x : Option Session) (pgn : ℕ) → StepFits (abort_to x pgn)
 unfolding abort_to
-abort_fits Closed pgn = record { change = tt; answer = tt }
-abort_fits (Open s) pgn = go (pgn == s.announced.pgn)
+abort_fits None pgn = record { change = tt; answer = tt }
+abort_fits (Some s) pgn = go (pgn == s.announced.pgn)
   where
     go : (t : Bool) → StepFits (cond t (record { change = Ends; answer = answer.Aborted s.announced.key }) (stays (answer.Refused KeyNotOpen)))
     go true = record { change = tt; answer = tt }

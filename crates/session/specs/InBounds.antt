@@ -1,5 +1,5 @@
 -- A session stays in bounds, whatever it decides: 01, "Numbered refusals". Nothing here needs to be believed.
-use Rattle.std.specs.Prelude.{◌≡◌, ℕ, ◌≤◌, Bool, true, false, cond, not, ◌||◌, [], ◌∷◌, ◌==◌, nat_eq, nat_le, nat_lt, refl}
+use Rattle.std.specs.Prelude.{◌≡◌, ℕ, ◌≤◌, Bool, true, false, cond, not, ◌||◌, [], ◌∷◌, ◌==◌, nat_eq, nat_le, nat_lt, refl, Ok}
 use Rattle.std.proofs.Common.{sym, ap, ◌∙◌, le-leb, ltb-true}
 use Rattle.std.proofs.lemmas.Bool.{eqb-false, not-false}
 use Rattle.laws.specs.Choice.{each_of, all_of_lem}
@@ -14,7 +14,6 @@ use Rattle.progress.specs.declared.Announced.{Announced}
 use Rattle.progress.specs.Forward.{advanced_by}
 use Rattle.progress.specs.Requests.{requested_by}
 use Rattle.session.specs.declared.Session.{Session}
-use Rattle.session.specs.declared.announcement.Form.TheVariants.{Good}
 use Rattle.session.specs.declared.segment.Judged.TheVariants.{Takes}
 use Rattle.session.specs.Announcements.{misdirected, form_of, announced_by, session_of}
 use Rattle.session.specs.Segments.{judged_of}
@@ -75,7 +74,7 @@ key_fact own a h e =
       ),
     )
 
-pub opened_ok : (own : Address) (k : Key) (a : Announcement) (last : ℕ) → KeyTaken own k → misdirected k.da a.kind ≡ false → form_of a ≡ Good
+pub opened_ok : (own : Address) (k : Key) (a : Announcement) (last : ℕ) → KeyTaken own k → misdirected k.da a.kind ≡ false → form_of a ≡ Ok tt
     → session_ok own (session_of k a last) ≡ true
 opened_ok own k a last h e f =
     of_sound own (session_of k a last)

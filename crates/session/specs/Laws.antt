@@ -1,5 +1,5 @@
 -- What follows from the rules of one session: its bounds are kept, and its segments lie in the message.
-use Rattle.std.specs.Prelude.{◌≡◌, ℕ, ◌+◌, ◌-◌, ◌*◌, ◌/◌, ◌<◌, ◌≤◌, Bool, true, false, cond, not, ◌&&◌, ◌||◌, List, [], ◌∷◌, ◌==◌, ◌≢◌, nat_eq, nat_le, nat_lt, refl}
+use Rattle.std.specs.Prelude.{Result, ⊤, ◌≡◌, ℕ, ◌+◌, ◌-◌, ◌*◌, ◌/◌, ◌<◌, ◌≤◌, Bool, true, false, cond, not, ◌&&◌, ◌||◌, List, [], ◌∷◌, ◌==◌, ◌≢◌, nat_eq, nat_le, nat_lt, refl, Err, Ok}
 use Rattle.std.proofs.Common.{sym, ap, subst, ◌∙◌, arith}
 use borrow.Author.Tests.{ltb-false, leb-true, eqb-true, eqb-false, le-leb, eq-eqb, not-false}
 use Rattle.laws.specs.Choice.{each_of, all_of_lem}
@@ -13,7 +13,6 @@ use Rattle.transport.specs.declared.Key.{Key}
 use Rattle.transport.specs.declared.Kind.{Kind}
 use Rattle.transport.specs.declared.announcement.Announcement.{Announcement}
 use Rattle.session.specs.declared.Session.{Session}
-use Rattle.session.specs.declared.announcement.Form.TheVariants.{Good, Bad}
 use Rattle.session.specs.declared.segment.Judged.TheVariants.{Refused, Ends, Takes}
 use Rattle.transport.specs.Kinds.{is_rts}
 use Rattle.progress.specs.declared.Announced.{Announced}
@@ -47,11 +46,11 @@ grant_next false n granted segments max l u g h = (g, h)
 
 -- ---- an announcement of good form
 
-bad≢good : (x : Refusal) → Bad x ≢ Good
+bad≢good : (x : Refusal) → ◌≢◌ {A = Result ⊤ Refusal} (Err x) (Ok tt)
 bad≢good x e = let z : ◌≡◌ {A = ℕ} 0 1 = cc in omega arith
 
 -- the numbers agree, and no assurance data is announced
-pub form_agreed : (a : Announcement) → form_of a ≡ Good
+pub form_agreed : (a : Announcement) → form_of a ≡ Ok tt
     → Agreed a.kind a.total.0 a.segments.0 a.max a.pgn × (a.assurance ≡ 0)
 unfolding form_of
 form_agreed a e =
@@ -153,13 +152,13 @@ module _ (a : Announced) (p : Progress) where
 
 -- ---- a session is in bounds when it opens
 
-pub opened_agreed : (k : Key) (a : Announcement) → form_of a ≡ Good → AgreedIn (announced_by k a)
+pub opened_agreed : (k : Key) (a : Announcement) → form_of a ≡ Ok tt → AgreedIn (announced_by k a)
 opened_agreed k a e = (form_agreed a e).0
 
 few_segments : (kind : Kind) (total segments max pgn : ℕ) → Agreed kind total segments max pgn → (1 ≤ segments) × (segments ≤ 69)
 few_segments kind total segments max pgn h = (omega arith, omega arith)
 
-pub opened_reached : (k : Key) (a : Announcement) (last : ℕ) → form_of a ≡ Good → Reached (announced_by k a) (session_of k a last).progress
+pub opened_reached : (k : Key) (a : Announcement) (last : ℕ) → form_of a ≡ Ok tt → Reached (announced_by k a) (session_of k a last).progress
 opened_reached k a last e =
     let f = (form_agreed a e).0 in
     let few = few_segments a.kind a.total.0 a.segments.0 a.max a.pgn f in

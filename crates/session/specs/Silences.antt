@@ -1,5 +1,5 @@
 -- Which of the two silences each answer starts: 02, E4. Nothing here but the three definitions needs to be believed.
-use Rattle.std.specs.Prelude.{◌≡◌, ℕ, Bool, true, false, cond, not, ◌==◌, refl}
+use Rattle.std.specs.Prelude.{◌≡◌, ℕ, Bool, true, false, cond, not, ◌==◌, refl, Err, None, Ok, Option, Result, Some, ⊤}
 use Rattle.frame.specs.declared.refusal.Refusal.{Refusal}
 use Rattle.frame.specs.declared.refusal.Refusal.TheVariants.{AnnouncementForm, KeyOpen, SlotsFull, FormatIndicator, KeyNotOpen}
 use Rattle.transport.specs.Kinds.{is_rts}
@@ -15,13 +15,9 @@ use Rattle.progress.specs.declared.wait.Wait.TheVariants.{First, Second}
 use Rattle.progress.specs.Forward.{cts_due, advanced_by}
 use Rattle.progress.specs.Waits.{wait_after}
 use Rattle.session.specs.declared.Session.{Session}
-use Rattle.session.specs.declared.State.{State}
-use Rattle.session.specs.declared.State.TheVariants.{Closed, Open}
 use Rattle.session.specs.declared.Change.{Change}
 use Rattle.session.specs.declared.Change.TheVariants.{Stays, Opens, Moves, Ends}
 use Rattle.session.specs.declared.Step.{Step}
-use Rattle.session.specs.declared.announcement.Form.{Form}
-use Rattle.session.specs.declared.announcement.Form.TheVariants as form
 use Rattle.session.specs.declared.segment.Judged.{Judged}
 use Rattle.session.specs.declared.segment.Judged.TheVariants as judged
 use Rattle.session.specs.Announcements.{misdirected, form_of, session_of, first_cts}
@@ -30,21 +26,21 @@ use Rattle.session.specs.Decisions.{stays, refused, if_open, rejection, accepted
 use Rattle.session.specs.Cases.{by_status}
 
 -- the session of key κ goes on in the wait w, which counts from the last reading
-abbrev pub GoesOn : Key → Change → Wait → ℕ → Type 0
+abbrev pub GoesOn : Key → Change Session Progress → Wait → ℕ → Type 0
 GoesOn κ (Opens s) w last = (s.announced.key ≡ κ) × ((s.progress.wait ≡ w) × (s.progress.mark ≡ last))
 GoesOn κ (Moves p) w last = (p.wait ≡ w) × (p.mark ≡ last)
 GoesOn κ Stays w last = ⊥
 GoesOn κ Ends w last = ⊥
 
 -- no wait and no mark changes
-abbrev pub Untouched : Change → Type 0
+abbrev pub Untouched : Change Session Progress → Type 0
 Untouched Stays = Unit {0}
 Untouched Ends = Unit {0}
 Untouched (Opens s) = ⊥
 Untouched (Moves p) = ⊥
 
 -- a CTS starts the first wait; a BAM, and a segment that brought no CTS, the second; no other answer starts one
-abbrev pub Starts : Key → Answer → Change → ℕ → Type 0
+abbrev pub Starts : Key → Answer → Change Session Progress → ℕ → Type 0
 Starts κ (answer.Grant c) change last = GoesOn κ change First last
 Starts κ (answer.Opened k) change last = GoesOn κ change Second last
 Starts κ (answer.Taken t) change last = GoesOn κ change Second last
@@ -76,19 +72,19 @@ accepted true n k a last = go (is_rts a.kind) (session_of k a last) refl refl re
     go true s κ e m = (κ, (e, m))
     go false s κ e m = (κ, (e, m))
 
-pub announce_starts : (x : State) (room : Bool) (k : Key) (a : Announcement) (last : ℕ) → StepStarts k (announced_to x room k a last) last
+pub announce_starts : (x : Option Session) (room : Bool) (k : Key) (a : Announcement) (last : ℕ) → StepStarts k (announced_to x room k a last) last
 unfolding announced_to
 announce_starts x room k a last = go (misdirected k.da a.kind) (form_of a) x
   where
-    go : (t : Bool) (f : Form) (x : State) → StepStarts k (cond t (refused AnnouncementForm) (on_form f x room k a last)) last
+    go : (t : Bool) (f : Result ⊤ Refusal) (x : Option Session) → StepStarts k (cond t (refused AnnouncementForm) (on_form f x room k a last)) last
     go true f x = tt
-    go false (form.Bad n) x = rejects k a n last
-    go false form.Good (Open s) = accepted (is_restart s a) KeyOpen k a last
-    go false form.Good Closed = accepted room SlotsFull k a last
+    go false (Err n) x = rejects k a n last
+    go false (Ok tt) (Some s) = accepted (is_restart s a) KeyOpen k a last
+    go false (Ok tt) None = accepted room SlotsFull k a last
 
 -- ---- a segment: one that is refused starts nothing
 
-pub segment_starts : (x : State) (k : Key) (sg : Segment) (last : ℕ) → StepStarts k (segment_to x sg last) last
+pub segment_starts : (x : Option Session) (k : Key) (sg : Segment) (last : ℕ) → StepStarts k (segment_to x sg last) last
 unfolding segment_to
 segment_starts x k sg last = go (not (sg.format == 0)) x
   where
@@ -103,22 +99,22 @@ segment_starts x k sg last = go (not (sg.format == 0)) x
     judges s judged.Takes =
         takes s (cts_due s.progress s.announced sg.number.0) (advanced_by s.progress s.announced sg.number.0 last) refl refl
 
-    go : (t : Bool) (x : State) → StepStarts k (cond t (refused FormatIndicator) (if_open x (λ s. segment_open s sg.number.0 sg.room last))) last
+    go : (t : Bool) (x : Option Session) → StepStarts k (cond t (refused FormatIndicator) (if_open x (λ s. segment_open s sg.number.0 sg.room last))) last
     go true x = tt
-    go false Closed = tt
-    go false (Open s) = judges s (judged_of s sg.number.0 sg.room)
+    go false None = tt
+    go false (Some s) = judges s (judged_of s sg.number.0 sg.room)
 
 -- ---- the end
 
-pub status_starts : (x : State) (k : Key) (slot : ℕ) (st : Status) (last : ℕ) → StepStarts k (status_to x slot st last) last
+pub status_starts : (x : Option Session) (k : Key) (slot : ℕ) (st : Status) (last : ℕ) → StepStarts k (status_to x slot st last) last
 unfolding status_to
-status_starts Closed k slot st last = tt
-status_starts (Open s) k slot st last = by_status (λ (r : Step). StepStarts k r last) s slot st last tt (λ _ _. tt) (λ _ _ _. (refl, refl)) tt
+status_starts None k slot st last = tt
+status_starts (Some s) k slot st last = by_status (λ (r : Step). StepStarts k r last) s slot st last tt (λ _ _. tt) (λ _ _ _. (refl, refl)) tt
 
-pub abort_starts : (x : State) (k : Key) (pgn last : ℕ) → StepStarts k (abort_to x pgn) last
+pub abort_starts : (x : Option Session) (k : Key) (pgn last : ℕ) → StepStarts k (abort_to x pgn) last
 unfolding abort_to
-abort_starts Closed k pgn last = tt
-abort_starts (Open s) k pgn last = go (pgn == s.announced.pgn)
+abort_starts None k pgn last = tt
+abort_starts (Some s) k pgn last = go (pgn == s.announced.pgn)
   where
     go : (t : Bool) → StepStarts k (cond t (record { change = Ends; answer = answer.Aborted s.announced.key }) (refused KeyNotOpen)) last
     go true = tt

@@ -1,5 +1,5 @@
 -- Lines P8 to P12 of 01's table, as far as one session decides them.
-use Rattle.std.specs.Prelude.{◌≡◌, ℕ, zero, suc, Bool, true, false, List, [], ◌∷◌, refl}
+use Rattle.std.specs.Prelude.{◌≡◌, ℕ, zero, suc, Bool, true, false, List, [], ◌∷◌, refl, Err, Ok}
 use Rattle.segments.specs.Digits.{digit}
 use Rattle.segments.specs.Model.{is_in}
 use Rattle.frame.specs.declared.refusal.Refusal.TheVariants.{AnnouncementForm, TooLong}
@@ -7,7 +7,6 @@ use Rattle.transport.specs.declared.Key.{Key}
 use Rattle.transport.specs.declared.Kind.TheVariants.{Rts}
 use Rattle.transport.specs.declared.announcement.Announcement.{Announcement}
 use Rattle.session.specs.declared.Session.{Session}
-use Rattle.session.specs.declared.announcement.Form.TheVariants.{Good, Bad}
 use Rattle.session.specs.declared.Change.{Change}
 use Rattle.session.specs.declared.Change.TheVariants.{Stays, Opens, Moves, Ends}
 use Rattle.session.specs.declared.Step.{Step}
@@ -22,6 +21,7 @@ use Rattle.session.specs.Announcements.{form_of, session_of, first_cts}
 use Rattle.session.specs.Segments.{due_of, judged_of}
 use Rattle.session.specs.Decisions.{segment_open}
 use Rattle.session.specs.Ends.{elapsed, is_idle}
+use Rattle.progress.specs.declared.Progress.{Progress}
 
 -- an RTS of PGN 65226 with MAX SGMTS 255 and no assurance data
 abbrev pub rts_of : ℕ → ℕ → Announcement
@@ -35,7 +35,7 @@ rts_of total segments =
       pgn = 65226;
     }
 
-pub P8-form : form_of (rts_of 61 2) ≡ Good
+pub P8-form : form_of (rts_of 61 2) ≡ Ok tt
 unfolding form_of
 P8-form = refl
 
@@ -43,7 +43,7 @@ pub P8 : (k : Key) → first_cts k (rts_of 61 2) ≡ record { key = k; next = re
 unfolding grant_of
 P8 k = refl
 
-pub P9 : form_of (rts_of 61 1) ≡ Bad AnnouncementForm
+pub P9 : form_of (rts_of 61 1) ≡ Err AnnouncementForm
 unfolding form_of
 P9 = refl
 
@@ -59,7 +59,7 @@ counted (answer.Ended e) l = l
 counted (answer.RefusedRts j) l = l
 counted (answer.Refused n) l = l
 
-abbrev onward : Change → Session → (Session → List ℕ) → List ℕ
+abbrev onward : Change Session Progress → Session → (Session → List ℕ) → List ℕ
 onward (Moves p) s f = f (record { announced = s.announced; progress = p })
 onward Stays s f = []
 onward (Opens t) s f = []
@@ -71,7 +71,7 @@ counts (suc k) n s =
     let st : Step = segment_open s n 60 0 in
     counted st.answer (onward st.change s (counts k (suc n)))
 
-pub P10-form : form_of (rts_of 4096 69) ≡ Good
+pub P10-form : form_of (rts_of 4096 69) ≡ Ok tt
 unfolding form_of
 P10-form = refl
 
@@ -79,12 +79,12 @@ pub P10 : (k : Key) → (first_cts k (rts_of 4096 69)).count ∷ counts 69 1 (se
 unfolding counts judged_of is_in digit due_of grant_of
 P10 k = refl
 
-pub P11 : form_of (rts_of 4097 69) ≡ Bad TooLong
+pub P11 : form_of (rts_of 4097 69) ≡ Err TooLong
 unfolding form_of
 P11 = refl
 
 -- a wrong segment count is found before the length
-pub count_first : form_of (rts_of 4097 68) ≡ Bad AnnouncementForm
+pub count_first : form_of (rts_of 4097 68) ≡ Err AnnouncementForm
 unfolding form_of
 count_first = refl
 

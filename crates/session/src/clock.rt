@@ -5,25 +5,22 @@ ghost use Rattle.session.specs.Decisions.{end_at};
 
 use super::Session;
 use super::end::ending_of;
-use answer::End;
+use answer::Ending;
 use frame::refusal::Refusal;
 use progress::wait::{IdleLimits, limit_in};
 
 // Whether a session has been silent from its mark to the reading for at least the limit.
+#[tactic(auto, unfolding(crate::specs::Ends::elapsed))]
 pub fn is_idle(limit: u32, mark: u32, reading: u32) -> bool
     ensures { result ≡ is_idle limit mark reading }
 {
-    limit <= std::num::wrapping_sub_u32(reading, mark)
+    limit <= reading.wrapping_sub(mark)
 }
 
 // What becomes of a session at a reading: it stays, or ends with 22 by the limit of its wait.
-pub fn at_reading(s: Session, limits: IdleLimits, reading: u32) -> End
+pub fn at_reading(s: Session, limits: IdleLimits, reading: u32) -> Option<Ending>
     ensures { result ≡ end_at limits reading s }
 {
     let p = s.progress;
-    let wait = p.wait;
-    if is_idle(limit_in(limits, wait), p.mark, reading) {
-        return End::Ended(ending_of(s, Refusal::Silence));
-    }
-    End::Stays
+    is_idle(limit_in(limits, p.wait), p.mark, reading).then(|| ending_of(s, Refusal::Silence))
 }

@@ -3,5 +3,6 @@
 #![tactic(auto)]
 
 pub mod ending;
+mod key;
 pub mod message;
 pub mod progress;

@@ -6,8 +6,7 @@ ghost use Rattle.slots.specs.ByKind.{numbers_ok, source_ok, rts_ok, bam_ok};
 
 use frame::{Address, pgn};
 use progress::request::REQUESTS;
-use progress::wait::{IdleLimits, Wait, is_second};
-use segments::agree;
+use progress::wait::{IdleLimits, Wait};
 use session::Session;
 use transport::{Key, Kind};
 
@@ -50,10 +49,11 @@ fn rts_ok(da: u8, own: u8, max: u8, requests: u8, granted: u32, segments: u32) -
 }
 
 // A BAM goes to 255, waits for a segment of the message or the one after its last, and has only the second wait.
+#[tactic(auto, unfolding(progress::specs::Waits::is_second))]
 fn bam_ok(da: u8, next: u32, segments: u32, wait: Wait) -> bool
     ensures { result ≡ bam_ok da next segments wait }
 {
-    (da == 255) & ((1 <= next) & ((next as u64 <= segments as u64 + 1) & is_second(wait)))
+    (da == 255) & ((1 <= next) & ((next as u64 <= segments as u64 + 1) & (wait == Wait::Second)))
 }
 
 // Numbers go to each test, and no part of the session whole: it is read out of a record's bytes, and only what is tested is.
@@ -83,7 +83,7 @@ pub fn session_ok(s: Session, own: Address) -> bool
             ) {
                 return false;
             }
-            agree(p.taken, a.segments.0, p.missing)
+            p.taken.agree(a.segments.0, p.missing)
         }
         Kind::Bam => bam_ok(key.da.0, p.next.0, a.segments.0, wait),
     }

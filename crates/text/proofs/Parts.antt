@@ -1,40 +1,31 @@
 -- What the parts of a line are made of, and the room that they leave.
-use Prim.Native.Nat.{ℕ, suc, ◌+◌, ◌-◌, ◌<◌, ◌≤◌}
+use Prim.Native.Nat.{ℕ, ◌+◌, ◌-◌, ◌<◌, ◌≤◌}
 use native.Mathlib.Omega.{arith}
 use mathlib.Core.Path.{◌≡◌, refl, sym, ap, subst, ◌∙◌}
-use mathlib.Core.List.{List, [], ◌∷◌, ◌++◌, append_assoc}
+use mathlib.Core.List.{List, [], ◌∷◌, ◌++◌, append_assoc, map}
 use lib.ListN.{length, set, length-append}
-use Rattle.text.specs.Decimal.{width_of, length_decimal}
-use Rattle.text.specs.Put.{PutAt, put_set, put_same, put_then}
-use Rattle.text.specs.Line.{spaced, numbers, line_of, left_by, left_short, left_enough, left_then, short_of, enough_of}
-use Rattle.text.specs.declared.Left.TheVariants.{Enough, Short}
+use borrow.Rule.Slice.PartMut.{put_mid}
+use Rattle.std.proofs.lemmas.Slice.{put_mid-paste}
+use Rattle.text.specs.Put.{PutAt, put_set, put_same, put_then, put_copied}
+use Rattle.text.specs.Line.{spaced, numbers, line_of, left_by, left_short, left_then, short_of, enough_of}
+use Rattle.std.specs.Prelude.{Some, None}
 
-pub no_numbers : numbers [] ≡ []
-unfolding numbers
-no_numbers = refl
+-- a u64 and a u8 are their own number
+pub own_numbers : (l : List ℕ) → numbers l ≡ numbers (map (λ (n : ℕ). n) l)
+own_numbers l = ap numbers (go l)
+  where
+    go : (l : List ℕ) → l ≡ map (λ (n : ℕ). n) l
+    go [] = refl
+    go (x ∷ l) = ap (λ (r : List ℕ). x ∷ r) (go l)
 
-pub more_numbers : (x : ℕ) (xs : List ℕ) → numbers (x ∷ xs) ≡ spaced x ++ numbers xs
-unfolding numbers
-more_numbers x xs = refl
-
--- ---- the room that numbers leave
-pub length_spaced : (n : ℕ) → length (spaced n) ≡ suc (width_of n)
-unfolding spaced
-length_spaced n = ap suc (length_decimal n)
-
--- the digits and the space before them
-module _ (left n w : ℕ) (e : w ≡ width_of n) where
-  pub spaced_short : left ≤ w → left_by left (length (spaced n)) ≡ Short
-  spaced_short h =
-      let k : length (spaced n) ≡ suc (width_of n) = length_spaced n in sym (left_short left (length (spaced n)) (omega arith))
-
-  pub spaced_left : w < left → left_by left (length (spaced n)) ≡ Enough (left - w - 1)
-  spaced_left h =
-      let k : length (spaced n) ≡ suc (width_of n) = length_spaced n in
-      let q : left - length (spaced n) ≡ left - w - 1 = omega arith in
-      sym (left_enough left (length (spaced n)) (omega arith)) ∙ ap Enough q
+pub own_left : (room : ℕ) (l : List ℕ) → left_by room (length (numbers l)) ≡ left_by room (length (numbers (map (λ (n : ℕ). n) l)))
+own_left room l = ap (λ (r : List ℕ). left_by room (length r)) (own_numbers l)
 
 -- ---- a whole line
+
+-- the word, as copy_from_slice leaves it
+pub word_copied : (d : List ℕ) (at : ℕ) (word x : List ℕ) → x ≡ word → PutAt d at word (at + length word) (put_mid at (at + length word - at) d x)
+word_copied d at word x e = put_copied d at word (put_mid-paste at (at + length word - at) d x word (length word) e (omega arith) refl)
 
 pub numbers_append : (a b : List ℕ) → numbers (a ++ b) ≡ numbers a ++ numbers b
 unfolding numbers
@@ -54,21 +45,22 @@ module _ (word f o : List ℕ) where
   length_line = ap length parts ∙ simp length-append refl
 
   module _ (room : ℕ) where
-    pub line_cut : room ≤ length word → Short ≡ left_by room (length (line_of word (f ++ o)))
+    pub line_cut : room ≤ length word → None ≡ left_by room (length (line_of word (f ++ o)))
     line_cut h =
         let e : length (line_of word (f ++ o)) ≡ length word + length (numbers f) + length (numbers o) + 1 = length_line in
         left_short room _ (omega arith)
 
-    module _ (h : length word < room) where
-      pub fields_cut : left_by (room - length word - 1) (length (numbers f)) ≡ Short → Short ≡ left_by room (length (line_of word (f ++ o)))
+    -- b is what the word and the end of the line leave
+    module _ (b : ℕ) (h : (length word + 1 ≤ room) × (b ≡ room - (length word + 1))) where
+      pub fields_cut : left_by b (length (numbers f)) ≡ None → None ≡ left_by room (length (line_of word (f ++ o)))
       fields_cut e =
           let n : length (line_of word (f ++ o)) ≡ length word + length (numbers f) + length (numbers o) + 1 = length_line in
-          let k : room - length word - 1 < length (numbers f) = short_of _ _ e in
+          let k : b < length (numbers f) = short_of _ _ e in
           left_short room _ (omega arith)
 
-      pub line_left : (l : ℕ) → left_by (room - length word - 1) (length (numbers f)) ≡ Enough l → left_by l (length (numbers o)) ≡ left_by room (length (line_of word (f ++ o)))
+      pub line_left : (l : ℕ) → left_by b (length (numbers f)) ≡ Some l → left_by l (length (numbers o)) ≡ left_by room (length (line_of word (f ++ o)))
       line_left l e =
-          let (k, q) = enough_of (room - length word - 1) (length (numbers f)) l e in
+          let (k, q) = enough_of b (length (numbers f)) l e in
           let j : l ≡ room - (length word + 1 + length (numbers f)) = omega arith in
           let n : length word + 1 + length (numbers f) + length (numbers o) ≡ length (line_of word (f ++ o)) = omega (arith, length_line) in
           ap (λ (m : ℕ). left_by m (length (numbers o))) j

@@ -1,7 +1,8 @@
 -- Decimal: 01, "Program", "All numbers decimal". A number's digits as ASCII, most significant first, no more than it needs; 0 is "0".
-use Rattle.std.specs.Prelude.{ℕ, zero, suc, ◌+◌, ◌-◌, ◌*◌, ◌/◌, ◌%◌, ◌<◌, ◌≤◌, ◌≡◌, refl, Bool, true, false, cond, List, [], ◌∷◌, ◌++◌, ltb, length, get_or}
+use Rattle.std.specs.Prelude.{ℕ, zero, suc, ◌+◌, ◌-◌, ◌*◌, ◌/◌, ◌%◌, ◌^◌, ◌<◌, ◌≤◌, ◌≡◌, refl, Bool, true, false, cond, List, [], ◌∷◌, ◌++◌, ltb, length, get_or}
 use Rattle.std.proofs.Common.{arith, sym, ap, ◌∙◌, length-append, lt-ltb, le-ltb, ltb-true, ltb-false}
 use Rattle.std.proofs.Math.ListN.{get_or-append}
+use Rattle.std.proofs.Math.Nat.{pow-succ'}
 use Rattle.std.proofs.lemmas.List.{get_or_at}
 use Rattle.laws.specs.Choice.{then, else}
 
@@ -48,6 +49,13 @@ width_large n h =
     enough n (suc n) n (omega arith) (omega arith)
     ∙ sym (else (ltb n 10) _ _ _ (le-ltb n 10 h) refl)
     ∙ ap suc (enough n (n / 10) (n / 10) (omega arith) (omega arith))
+
+-- by the power of ten that its first digit counts
+pub width_power : (k n : ℕ) → 10 ^ k ≤ n → n < 10 * 10 ^ k → width_of n ≡ k + 1
+width_power zero n h l = width_small n (omega arith)
+width_power (suc k) n h l =
+    let p : 10 ^ suc k ≡ 10 * 10 ^ k = pow-succ' 10 k in
+    width_large n (omega arith) ∙ ap suc (width_power k (n / 10) (omega arith) (omega arith)) ∙ omega arith
 
 -- a number below 10 is its digit; any other is the digits of a tenth of it, and its last digit
 pub decimal_small : (n : ℕ) → n < 10 → decimal n ≡ (48 + n) ∷ []

@@ -71,6 +71,9 @@ pub record PutAt (d : List ℕ) (at : ℕ) (x : List ℕ) (next : ℕ) (out : Li
 pub put_by : {d : List ℕ} {at : ℕ} {x y : List ℕ} {next : ℕ} {out : List ℕ} → x ≡ y → PutAt d at y next out → PutAt d at x next out
 put_by {d} {at} {x} {y} {next} {out} e p = subst (λ (z : List ℕ). PutAt d at z next out) (sym e) p
 
+pub put_none : (d : List ℕ) (at : ℕ) → PutAt d at [] at d
+put_none d at = record { place = omega arith; bytes = sym (put_nil d at) }
+
 pub put_set : (d : List ℕ) (at v : ℕ) → at < length d → PutAt d at (v ∷ []) (at + 1) (set d at v)
 put_set d at v h = record { place = refl; bytes = put_one d at v h }
 

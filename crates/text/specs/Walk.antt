@@ -1,10 +1,9 @@
 -- Loops that walk a list and write, or count, what each element becomes.
-use Rattle.std.specs.Prelude.{ℕ, ◌+◌, ◌<◌, ◌≤◌, ◌≡◌, List, [], ◌∷◌, ◌++◌, length, get_or, drop}
+use Rattle.std.specs.Prelude.{ℕ, ◌+◌, ◌<◌, ◌≤◌, ◌≡◌, List, [], ◌∷◌, ◌++◌, Some, None, length, get_or, drop}
 use Rattle.std.proofs.Common.{sym, ap, subst, ◌∙◌}
 use Rattle.laws.specs.Turn.{turn, end}
 use Rattle.text.specs.Put.{PutAt, Going, going_room, going_on, going_end}
 use Rattle.text.specs.Line.{left_by, left_first, left_rest, left_none}
-use Rattle.text.specs.declared.Left.TheVariants.{Enough, Short}
 
 -- ---- f writes what g gives of each element in turn
 module _ {A : Type 0} (f : List A → List ℕ) (g : A → List ℕ) (none : f [] ≡ []) (more : (x : A) (xs : List A) → f (x ∷ xs) ≡ g x ++ f xs) where
@@ -30,13 +29,13 @@ module _ {A : Type 0} (f : List A → List ℕ) (g : A → List ℕ) (none : f [
       next_part : f (drop i l) ≡ g (get_or l i z) ++ f (drop (i + 1) l)
       next_part = turn f l i z h ∙ more (get_or l i z) (drop (i + 1) l)
 
-      pub count_cut : left_by left (length (g (get_or l i z))) ≡ Short → Short ≡ left_by room (length (f l))
+      pub count_cut : left_by left (length (g (get_or l i z))) ≡ None → None ≡ left_by room (length (f l))
       count_cut e =
           left_first left (g (get_or l i z)) (f (drop (i + 1) l)) e ∙ ap (λ (x : List ℕ). left_by left (length x)) (sym next_part) ∙ inv
 
-      pub count_on : (k : ℕ) → left_by left (length (g (get_or l i z))) ≡ Enough k → left_by k (length (f (drop (i + 1) l))) ≡ left_by room (length (f l))
+      pub count_on : (k : ℕ) → left_by left (length (g (get_or l i z))) ≡ Some k → left_by k (length (f (drop (i + 1) l))) ≡ left_by room (length (f l))
       count_on k e =
           left_rest left (g (get_or l i z)) (f (drop (i + 1) l)) k e ∙ ap (λ (x : List ℕ). left_by left (length x)) (sym next_part) ∙ inv
 
-    pub count_out : length l ≤ i → Enough left ≡ left_by room (length (f l))
+    pub count_out : length l ≤ i → Some left ≡ left_by room (length (f l))
     count_out h = left_none left ∙ ap (λ (x : List ℕ). left_by left (length x)) (sym (end f l i h ∙ none)) ∙ inv

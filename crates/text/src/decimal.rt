@@ -1,66 +1,69 @@
 // Numbers in decimal.
-ghost use Rattle.std.specs.Prelude.{◌≡◌, ◌+◌, ◌≤◌, length};
+ghost use Rattle.std.specs.Prelude.{ℕ, ◌≡◌, ◌+◌, ◌≤◌, length};
 ghost use Rattle.text.specs.Decimal.{width_of, decimal};
 ghost use Rattle.text.specs.Put.{PutAt};
 
-// How many digits a number has.
-pub fn width(n: u64) -> usize
-    ensures { result ≡ width_of n }
-{
-    let mut left = n;
-    let mut digits: usize = 1;
-    while 10 <= left {
-        left = left / 10;
-        digits = digits + 1;
-    }
-    digits
+// A number that a line has in decimal.
+pub trait Decimal: Copy {
+    ghost number: { Self → ℕ };
+
+    // How many digits it has.
+    fn width(self) -> usize
+        ensures { result ≡ width_of (number self) };
+
+    // Its digits from a place on, and the place after them. The caller has seen that there is room.
+    fn put(self, out: &mut [u8], at: usize) -> usize
+        requires { at + length (decimal (number self)) ≤ length out.old }
+        ensures { PutAt out.old at (decimal (number self)) result out.new };
 }
 
-// The digits of a number, from the last to the first. The caller has seen that there is room.
-pub fn put_number(out: &mut [u8], at: usize, n: u64) -> usize
-    requires { at + length (decimal n) ≤ length out.old }
-    ensures { PutAt out.old at (decimal n) result out.new }
-{
-    let end = at + width(n);
-    let mut left = n;
-    let mut i = end;
-    while at < i {
-        i = i - 1;
-        out[i] = (48 + left % 10) as u8;
-        left = left / 10;
+impl Decimal for u64 {
+    ghost number = { λ n. n };
+
+    fn width(self) -> usize {
+        match self.checked_ilog10() {
+            Some(last) => last as usize + 1,
+            None => 1,
+        }
     }
-    end
+
+    // From the last digit to the first.
+    fn put(self, out: &mut [u8], at: usize) -> usize {
+        let end = at + self.width();
+        let mut left = self;
+        for i in (at..end).rev() {
+            out[i] = b'0' + (left % 10) as u8;
+            left /= 10;
+        }
+        end
+    }
 }
 
-// ---- The same for a byte, of at most three digits, with no loop: a message has thousands of them.
+// A byte has at most three digits, and is put with no loop: a message has thousands of them.
+impl Decimal for u8 {
+    ghost number = { λ n. n };
 
-pub fn octet_width(n: u8) -> usize
-    ensures { result ≡ width_of n }
-{
-    if n < 10 {
-        return 1;
+    fn width(self) -> usize {
+        match self {
+            0..=9 => 1,
+            10..=99 => 2,
+            _ => 3,
+        }
     }
-    if n < 100 {
-        return 2;
-    }
-    3
-}
 
-pub fn put_octet(out: &mut [u8], at: usize, n: u8) -> usize
-    requires { at + length (decimal n) ≤ length out.old }
-    ensures { PutAt out.old at (decimal n) result out.new }
-{
-    if n < 10 {
-        out[at] = 48 + n;
-        return at + 1;
+    fn put(self, out: &mut [u8], at: usize) -> usize {
+        if self < 10 {
+            out[at] = b'0' + self;
+            return at + 1;
+        }
+        if self < 100 {
+            out[at] = b'0' + self / 10;
+            out[at + 1] = b'0' + self % 10;
+            return at + 2;
+        }
+        out[at] = b'0' + self / 100;
+        out[at + 1] = b'0' + self / 10 % 10;
+        out[at + 2] = b'0' + self % 10;
+        at + 3
     }
-    if n < 100 {
-        out[at] = 48 + n / 10;
-        out[at + 1] = 48 + n % 10;
-        return at + 2;
-    }
-    out[at] = 48 + n / 100;
-    out[at + 1] = 48 + n / 10 % 10;
-    out[at + 2] = 48 + n % 10;
-    at + 3
 }

@@ -1,178 +1,104 @@
-// A line: a word, then a space and the digits of each number, then LF.
-ghost use Rattle.std.specs.Prelude.{◌≡◌, ◌++◌, ◌+◌, ◌≤◌, length};
-ghost use Rattle.text.specs.Line.{spaced, numbers, line_of, left_by, Placed};
+// A line: a word, then a space and the digits of each number, then LF. It has no Display: a write! puts part by part and promises
+// nothing of a buffer that was too short, while Placed needs all of the line or nothing.
+ghost use Rattle.std.specs.Prelude.{◌≡◌, ◌++◌, ◌+◌, ◌≤◌, length, map};
+ghost use Rattle.text.specs.Line.{spaced, numbers, line_of, bytes_of, left_by, Placed};
 ghost use Rattle.text.specs.Put.{PutAt};
 
-use super::decimal::{octet_width, put_number, put_octet, width};
-use super::{Left, Wrote};
-use octets::copy;
+use super::decimal::Decimal;
 
-// ---- The parts of a line, where the caller has seen that there is room.
+// ---- The numbers of a line.
 
-fn put_spaced(out: &mut [u8], at: usize, n: u64) -> usize
-    requires { at + length (spaced n) ≤ length out.old }
-    ensures { PutAt out.old at (spaced n) result out.new }
+// Puts a space and a number, where the caller has seen that there is room.
+#[tactic(auto, unfolding(crate::specs::Line::spaced))]
+fn put_spaced<N: Decimal>(out: &mut [u8], at: usize, number: N) -> usize
+    requires { at + length (spaced (N.number number)) ≤ length out.old }
+    ensures { PutAt out.old at (spaced (N.number number)) result out.new }
 {
-    out[at] = 32;
-    put_number(out, at + 1, n)
+    out[at] = b' ';
+    number.put(out, at + 1)
 }
 
-fn put_spaced_octet(out: &mut [u8], at: usize, n: u8) -> usize
-    requires { at + length (spaced n) ≤ length out.old }
-    ensures { PutAt out.old at (spaced n) result out.new }
-{
-    out[at] = 32;
-    put_octet(out, at + 1, n)
-}
-
-fn put_fields(out: &mut [u8], at: usize, fields: &[u64]) -> usize
-    requires { at + length (numbers fields.now) ≤ length out.old }
-    ensures { PutAt out.old at (numbers fields.now) result out.new }
+fn put_numbers<N: Decimal>(out: &mut [u8], at: usize, list: &[N]) -> usize
+    requires { at + length (numbers (map N.number list.now)) ≤ length out.old }
+    ensures { PutAt out.old at (numbers (map N.number list.now)) result out.new }
 {
     let mut place = at;
-    let mut i: usize = 0;
-    while i < fields.len() {
-        place = put_spaced(out, place, fields[i]);
-        i = i + 1;
+    for number in list {
+        place = put_spaced(out, place, *number);
     }
     place
 }
 
-fn put_octets(out: &mut [u8], at: usize, octets: &[u8]) -> usize
-    requires { at + length (numbers octets.now) ≤ length out.old }
-    ensures { PutAt out.old at (numbers octets.now) result out.new }
-{
-    let mut place = at;
-    let mut i: usize = 0;
-    while i < octets.len() {
-        place = put_spaced_octet(out, place, octets[i]);
-        i = i + 1;
-    }
-    place
-}
-
-// ---- How much of some room is left after them.
-
-fn left_after_fields(room: usize, fields: &[u64]) -> Left
-    ensures { result ≡ left_by room (length (numbers fields.now)) }
+// How much of some room is left after them.
+fn left_after_numbers<N: Decimal>(room: usize, list: &[N]) -> Option<usize>
+    ensures { result ≡ left_by room (length (numbers (map N.number list.now))) }
 {
     let mut left = room;
-    let mut i: usize = 0;
-    while i < fields.len() {
-        let digits = width(fields[i]);
-        if left <= digits {
-            return Left::Short;
+    for number in list {
+        left = left.checked_sub(number.width())?.checked_sub(1)?;
+    }
+    Some(left)
+}
+
+// ---- A whole line.
+
+#[derive(Clone, Copy)]
+pub struct Line<'a> {
+    pub word: &'a [u8],
+    pub fields: &'a [u64],
+    // the numbers after those of fields
+    pub octets: &'a [u8],
+}
+
+impl<'a> Line<'a> {
+    // A line with no octets.
+    pub fn plain(word: &'a [u8], fields: &'a [u64]) -> Line<'a>
+        ensures { bytes_of result ≡ line_of word.now fields.now }
+    {
+        Line {
+            word,
+            fields,
+            octets: b"",
         }
-        left = left - digits - 1;
-        i = i + 1;
     }
-    Left::Enough(left)
-}
 
-fn left_after_octets(room: usize, octets: &[u8]) -> Left
-    ensures { result ≡ left_by room (length (numbers octets.now)) }
-{
-    let mut left = room;
-    let mut i: usize = 0;
-    while i < octets.len() {
-        let digits = octet_width(octets[i]);
-        if left <= digits {
-            return Left::Short;
-        }
-        left = left - digits - 1;
-        i = i + 1;
+    // How much of some room is left after it.
+    pub fn left_after(self, room: usize) -> Option<usize>
+        ensures { result ≡ left_by room (length (bytes_of self.entry)) }
+    {
+        let behind = room.checked_sub(self.word.len() + 1)?;
+        let left = left_after_numbers(behind, self.fields)?;
+        left_after_numbers(left, self.octets)
     }
-    Left::Enough(left)
-}
 
-// ---- A whole line. Its numbers are those of fields and then those of octets.
-
-// How much of some room is left after a line.
-pub fn left_after_line(room: usize, word: &[u8], fields: &[u64], octets: &[u8]) -> Left
-    ensures { result ≡ left_by room (length (line_of word.now (fields.now ++ octets.now))) }
-{
-    if room <= word.len() {
-        return Left::Short;
+    // Puts it at a place of a lent buffer, where the caller has seen that there is room, and answers the place after it.
+    pub fn put(self, out: &mut [u8], at: usize) -> usize
+        requires { at + length (bytes_of self) ≤ length out.old }
+        ensures { PutAt out.old at (bytes_of self.entry) result out.new }
+    {
+        let first = at + self.word.len();
+        out[at..first].copy_from_slice(self.word);
+        let second = put_numbers(out, first, self.fields);
+        let third = put_numbers(out, second, self.octets);
+        out[third] = b'\n';
+        third + 1
     }
-    let behind = room - word.len() - 1;
-    let Left::Enough(left) = left_after_fields(behind, fields) else {
-        return Left::Short;
-    };
-    left_after_octets(left, octets)
-}
 
-// A line, where the caller has seen that there is room.
-pub fn put_line(out: &mut [u8], at: usize, word: &[u8], fields: &[u64], octets: &[u8]) -> usize
-    requires { at + length (line_of word.now (fields.now ++ octets.now)) ≤ length out.old }
-    ensures { PutAt out.old at (line_of word.now (fields.now ++ octets.now)) result out.new }
-{
-    let first = at + word.len();
-    copy(out, at, word, 0, word.len());
-    let second = put_fields(out, first, fields);
-    let third = put_octets(out, second, octets);
-    out[third] = 10;
-    third + 1
-}
-
-// A line at a place of a lent buffer, if there is room for all of it.
-pub fn write_line(out: &mut [u8], at: usize, word: &[u8], fields: &[u64], octets: &[u8]) -> Wrote
-    ensures { Placed out.old at (line_of word.now (fields.now ++ octets.now)) result out.new }
-{
-    let length = out.len();
-    if length < at {
-        return Wrote::Short;
+    // Puts it there if there is room for all of it, and answers the place after it.
+    pub fn write(self, out: &mut [u8], at: usize) -> Option<usize>
+        ensures { Placed out.old at (bytes_of self.entry) result out.new }
+    {
+        self.left_after(out.len().checked_sub(at)?)?;
+        Some(self.put(out, at))
     }
-    let Left::Enough(_) = left_after_line(length - at, word, fields, octets) else {
-        return Wrote::Short;
-    };
-    Wrote::Written(put_line(out, at, word, fields, octets))
-}
 
-// ---- A line with no octets.
-
-pub fn left_after_plain(room: usize, word: &[u8], fields: &[u64]) -> Left
-    ensures { result ≡ left_by room (length (line_of word.now fields.now)) }
-{
-    left_after_line(room, word, fields, b"")
-}
-
-pub fn put_plain(out: &mut [u8], at: usize, word: &[u8], fields: &[u64]) -> usize
-    requires { at + length (line_of word.now fields.now) ≤ length out.old }
-    ensures { PutAt out.old at (line_of word.now fields.now) result out.new }
-{
-    put_line(out, at, word, fields, b"")
-}
-
-pub fn write_plain(out: &mut [u8], at: usize, word: &[u8], fields: &[u64]) -> Wrote
-    ensures { Placed out.old at (line_of word.now fields.now) result out.new }
-{
-    write_line(out, at, word, fields, b"")
-}
-
-// Two lines, if there is room for both: the first has the numbers in counts, the second those in fields and octets.
-pub fn write_two(
-    out: &mut [u8],
-    at: usize,
-    first: &[u8],
-    counts: &[u64],
-    word: &[u8],
-    fields: &[u64],
-    octets: &[u8],
-) -> Wrote
-    ensures { Placed out.old at
-        (line_of first.now counts.now ++ line_of word.now (fields.now ++ octets.now)) result
-        out.new }
-{
-    let length = out.len();
-    if length < at {
-        return Wrote::Short;
+    // Puts it and then another line, if there is room for both.
+    pub fn write_then(self, next: Line<'_>, out: &mut [u8], at: usize) -> Option<usize>
+        ensures { Placed out.old at (bytes_of self.entry ++ bytes_of next.entry) result out.new }
+    {
+        let left = self.left_after(out.len().checked_sub(at)?)?;
+        next.left_after(left)?;
+        let behind = self.put(out, at);
+        Some(next.put(out, behind))
     }
-    let Left::Enough(left) = left_after_plain(length - at, first, counts) else {
-        return Wrote::Short;
-    };
-    let Left::Enough(_) = left_after_line(left, word, fields, octets) else {
-        return Wrote::Short;
-    };
-    let next = put_plain(out, at, first, counts);
-    Wrote::Written(put_line(out, next, word, fields, octets))
 }

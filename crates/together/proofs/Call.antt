@@ -1,8 +1,8 @@
 -- One call of a node: it is the receiver's call that it is received as, or it leaves the receiver as it was and shows nothing.
+use Rattle.std.specs.Prelude.{None, Option, Some}
 use Prim.Native.Nat.{ℕ}
 use mathlib.Core.Path.{◌≡◌, refl, sym, ap, ap₂, ◌∙◌, subst}
 use mathlib.Core.Bool.{Bool, true, false, cond, not, ◌&&◌}
-use mathlib.Core.Option.{Option, none, some}
 use mathlib.Core.List.{List, [], ◌∷◌}
 use lib.Dec.{eqb}
 use lib.ListN.{length}
@@ -37,16 +37,16 @@ use Rattle.together.proofs.Ends.{reply_code, answer_code, node_is, same_self}
 -- ---- what a received call shows and leaves; where there is none, nothing
 
 abbrev pub shown_of : Values → ℕ → List ℕ → List ℕ → Option Lending → List Seen
-shown_of v k b m none = []
-shown_of v k b m (some l) = shown v k b m l
+shown_of v k b m None = []
+shown_of v k b m (Some l) = shown v k b m l
 
 abbrev pub bytes_of : List ℕ → List ℕ → Option Lending → List ℕ
-bytes_of b m none = b
-bytes_of b m (some l) = bytes_after b m l
+bytes_of b m None = b
+bytes_of b m (Some l) = bytes_after b m l
 
 abbrev pub store_of : List ℕ → List ℕ → Option Lending → List ℕ
-store_of b m none = m
-store_of b m (some l) = store_left b m l
+store_of b m None = m
+store_of b m (Some l) = store_left b m l
 
 -- ---- a frame
 
@@ -71,10 +71,10 @@ module _ (v : Values) (k : ℕ) (b m s : List ℕ) (id : ℕ) (d a : List ℕ) w
     store : x.1.1.0 ≡ store_of b m o
     sending : x.1.1.1.0 ≡ h
 
-  answered : (r : Reply) (h : List ℕ) → Frame (node_told (Sender r, (b, (m, h)))) none h
+  answered : (r : Reply) (h : List ℕ) → Frame (node_told (Sender r, (b, (m, h)))) None h
   answered r h = record { shows_it = by_sender_lem b m (reply_number r) r (own_seen (reply_number r, (b, (m, reply_bytes r)))); bytes = refl; store = refl; sending = refl }
 
-  taken_on : length a ≡ answer_length → Frame (node_told (by_receiver s (frame_in b id d m))) (some (lent (frame id d), a)) s
+  taken_on : length a ≡ answer_length → Frame (node_told (by_receiver s (frame_in b id d m))) (Some (lent (frame id d), a)) s
   unfolding shown bytes_after store_left
   taken_on room =
       let e : told (frame_in b id d m) ≡ framed_in b id d m a = sym (framed_is b id d m a room) in

@@ -1,8 +1,8 @@
 -- Demand 3 of document 01 at a node with both ends, wherever the sender's calls stand in the list: 02, E2.
+use Rattle.std.specs.Prelude.{None, Option, Some}
 use Prim.Native.Nat.{ℕ, ◌<◌}
 use mathlib.Core.Path.{◌≡◌, refl, sym, ap, ap₂, ◌∙◌, subst}
 use mathlib.Core.Bool.{Bool, true, false, ◌&&◌}
-use mathlib.Core.Option.{Option, none, some}
 use mathlib.Core.List.{List, [], ◌∷◌, ◌++◌}
 use lib.ListN.{length}
 use borrow.Author.Tests.{eq-eqb}
@@ -39,12 +39,12 @@ held_ready b m h =
     ap₂ ◌&&◌ h.there.codes (ap₂ ◌&&◌ (eq-eqb (length m) 32768 h.fine.whole) (ap in_bounds h.there.reads ∙ h.fine.bounds))
 
 abbrev ProperOf : Option Lending → Type 0
-ProperOf none = Unit {0}
-ProperOf (some l) = Proper l
+ProperOf None = Unit {0}
+ProperOf (Some l) = Proper l
 
 held_after : (b m : List ℕ) → Held b m → (o : Option Lending) → ProperOf o → Held (bytes_of b m o) (store_of b m o)
-held_after b m h none p = h
-held_after b m h (some l) p =
+held_after b m h None p = h
+held_after b m h (Some l) p =
     let r : Receiver = h.holds in
     let c : Same r b m l = same_call r b m h.there h.fine l p in
     record {
@@ -71,26 +71,26 @@ all_proper s [] p = tt
 all_proper s (c ∷ cs) (p, ps) = with_proper (received_of s c) (received (heard_of s c) cs) (proper_of s c p) (all_proper (heard_of s c) cs ps)
   where
     with_proper : (o : Option Lending) (ls : List Lending) → ProperOf o → AllProper ls → AllProper (with_call o ls)
-    with_proper none ls p q = q
-    with_proper (some l) ls p q = (p, q)
+    with_proper None ls p q = q
+    with_proper (Some l) ls p q = (p, q)
 
 -- ---- a list
 
 shown_with : (v : Values) (k : ℕ) (b m : List ℕ) (o : Option Lending) (ls : List Lending)
     → shown_of v k b m o ++ shown_over v k (bytes_of b m o) (store_of b m o) ls ≡ shown_over v k b m (with_call o ls)
 unfolding shown_over
-shown_with v k b m none ls = refl
-shown_with v k b m (some l) ls = refl
+shown_with v k b m None ls = refl
+shown_with v k b m (Some l) ls = refl
 
 bytes_with : (b m : List ℕ) (o : Option Lending) (ls : List Lending) → bytes_over (bytes_of b m o) (store_of b m o) ls ≡ bytes_over b m (with_call o ls)
 unfolding bytes_over
-bytes_with b m none ls = refl
-bytes_with b m (some l) ls = refl
+bytes_with b m None ls = refl
+bytes_with b m (Some l) ls = refl
 
 store_with : (b m : List ℕ) (o : Option Lending) (ls : List Lending) → left_over (bytes_of b m o) (store_of b m o) ls ≡ left_over b m (with_call o ls)
 unfolding left_over
-store_with b m none ls = refl
-store_with b m (some l) ls = refl
+store_with b m None ls = refl
+store_with b m (Some l) ls = refl
 
 -- the list shows and leaves what the receiver's calls within it do
 record Together (v : Values) (k : ℕ) (b m s : List ℕ) (cs : List NodeCall) : Type 0 where

@@ -1,8 +1,8 @@
 -- A frame for the sender belongs to no session: 02, E2.
+use Rattle.std.specs.Prelude.{None, Option}
 use Prim.Native.Nat.{ℕ}
 use mathlib.Core.Path.{◌≡◌, refl, sym, ap, ◌∙◌}
 use mathlib.Core.Bool.{Bool, true, false, cond, not, ◌&&◌, ◌||◌, false≢true}
-use mathlib.Core.Option.{Option, none}
 use mathlib.Core.List.{List, []}
 use mathlib.Mathlib.Data.Bool.Basic.{and_elim_left, and_elim_right}
 use lib.Dec.{eqb}
@@ -20,20 +20,20 @@ use Rattle.isolation.specs.World.{frame, lent, World, sees_body, sees}
 
 -- control and role of a responder are none of an originator's
 no_body : (c r : ℕ) (x y z w : Option Body) → (eqb c 1 || eqb c 3 || (eqb c 15 && eqb r 1)) ≡ true
-    → cond (eqb c 0) x (cond (eqb c 4) y (cond (eqb c 2) z (cond (eqb c 15 && eqb r 0) w none))) ≡ none
+    → cond (eqb c 0) x (cond (eqb c 4) y (cond (eqb c 2) z (cond (eqb c 15 && eqb r 0) w None))) ≡ None
 no_body c r x y z w e = go (eqb c 1) (eqb c 3) (eqb c 15 && eqb r 1) refl refl refl e
   where
     by : ℕ → ℕ → Option Body
-    by c r = cond (eqb c 0) x (cond (eqb c 4) y (cond (eqb c 2) z (cond (eqb c 15 && eqb r 0) w none)))
+    by c r = cond (eqb c 0) x (cond (eqb c 4) y (cond (eqb c 2) z (cond (eqb c 15 && eqb r 0) w None)))
 
-    go : (t u s : Bool) → eqb c 1 ≡ t → eqb c 3 ≡ u → (eqb c 15 && eqb r 1) ≡ s → (t || u || s) ≡ true → by c r ≡ none
+    go : (t u s : Bool) → eqb c 1 ≡ t → eqb c 3 ≡ u → (eqb c 15 && eqb r 1) ≡ s → (t || u || s) ≡ true → by c r ≡ None
     go true u s p q h e = ap (λ (n : ℕ). by n r) (eqb-true c 1 p)
     go false true s p q h e = ap (λ (n : ℕ). by n r) (eqb-true c 3 q)
     go false false true p q h e =
         ap (λ (n : ℕ). by n r) (eqb-true c 15 (and_elim_left (eqb c 15) (eqb r 1) h)) ∙ ap (by 15) (eqb-true r 1 (and_elim_right (eqb c 15) (eqb r 1) h))
     go false false false p q h e = absurd (false≢true e)
 
-responders_body : (own : Address) (id : ℕ) (d : List ℕ) → is_responders id d ≡ true → body_of own id d ≡ none
+responders_body : (own : Address) (id : ℕ) (d : List ℕ) → is_responders id d ≡ true → body_of own id d ≡ None
 unfolding body_of control_body
 responders_body own id d e =
     let long : eqb (length d) 12 ≡ true = and_elim_left (eqb (length d) 12) (eqb (identifier_of id).pf 77 && c) e in
@@ -47,7 +47,7 @@ responders_body own id d e =
     c : Bool
     c = eqb (control_at d) 1 || eqb (control_at d) 3 || (eqb (control_at d) 15 && eqb (role_at d) 1)
 
-    either : (t : Bool) (x : Option Body) → none ≡ x → none ≡ cond t none x
+    either : (t : Bool) (x : Option Body) → None ≡ x → None ≡ cond t None x
     either true x q = refl
     either false x q = q
 

@@ -1,7 +1,6 @@
 -- The receiver's calls within a list of a node's calls (02, E2): what goes to the sender is no session's and is left out, and so is a call that
 -- is refused for the sender's record or for the length of its message, since it counts as not made.
-use Rattle.std.specs.Prelude.{ℕ, Bool, true, false, cond, List, [], ◌∷◌}
-use Rattle.std.proofs.Math.Option.{Option, none, some}
+use Rattle.std.specs.Prelude.{ℕ, Bool, true, false, cond, List, [], ◌∷◌, None, Option, Some}
 use Rattle.sender.specs.Transfers.{ready_in}
 use Rattle.sender.specs.Calls.{hear_in}
 use Rattle.node.specs.Node.{is_responders}
@@ -11,16 +10,16 @@ use Rattle.together.specs.Calls.{NodeCall, receiver, node, node_elsewhere, sende
 
 -- a frame, by whether the sender's record is in bounds and whether the frame is for the sender: else it is the receiver's call l
 abbrev pub frame_received : Bool → Bool → Lending → Option Lending
-frame_received false responders l = none
-frame_received true true l = none
-frame_received true false l = some l
+frame_received false responders l = None
+frame_received true true l = None
+frame_received true false l = Some l
 
 -- the receiver's call that a node's call is, if it is one; where another buffer is in the store's place the receiver's own 23 comes first
 unfoldable pub received_of : List ℕ → NodeCall → Option Lending
-received_of s (receiver l) = some l
+received_of s (receiver l) = Some l
 received_of s (node id d a w) = frame_received (ready_in (lent_of w s)) (is_responders id d) (lent (frame id d), a)
-received_of s (node_elsewhere o e id d a w) = some (elsewhere o e (frame id d), a)
-received_of s (sender c w) = none
+received_of s (node_elsewhere o e id d a w) = Some (elsewhere o e (frame id d), a)
+received_of s (sender c w) = None
 
 -- the sender's record after a frame of a node, by the sender alone
 abbrev pub frame_heard : List ℕ → ℕ → List ℕ → List ℕ
@@ -34,8 +33,8 @@ heard_of s (node_elsewhere o e id d a w) = s
 heard_of s (sender c w) = kept_of w s (sending_leaves (lent_of w s) c)
 
 abbrev pub with_call : Option Lending → List Lending → List Lending
-with_call none ls = ls
-with_call (some l) ls = l ∷ ls
+with_call None ls = ls
+with_call (Some l) ls = l ∷ ls
 
 unfoldable pub received : List ℕ → List NodeCall → List Lending
 received s [] = []

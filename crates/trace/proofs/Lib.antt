@@ -1,3 +1,3 @@
 pub mod Groups
-pub mod Arms
+pub mod Ends
 pub mod Pieces

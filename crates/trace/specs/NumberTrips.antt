@@ -1,5 +1,5 @@
 -- What is written reads back, and only what is written reads: a number has one form.
-use Rattle.std.specs.Prelude.{ℕ, zero, suc, ◌+◌, ◌-◌, ◌*◌, ◌/◌, ◌%◌, ◌^◌, ◌<◌, ◌≤◌, ◌≡◌, refl, List, [], ◌∷◌, ◌++◌, ltb, eqb, length, get_or, drop}
+use Rattle.std.specs.Prelude.{ℕ, zero, suc, ◌+◌, ◌-◌, ◌*◌, ◌/◌, ◌%◌, ◌^◌, ◌<◌, ◌≤◌, ◌≡◌, refl, List, [], ◌∷◌, ◌++◌, ltb, eqb, length, get_or, drop, Result, Ok, Err}
 use Rattle.std.proofs.Math.Nat.{one-le-pow}
 use Rattle.std.proofs.Common.{arith, sym, ap, subst, ◌∙◌, append_assoc, drop-drop, get_or-drop, lt-ltb, le-ltb, ne_eqb, ltb-true, ltb-false}
 use Rattle.std.proofs.Math.Decide.{dec_lt}
@@ -8,26 +8,24 @@ use Rattle.std.proofs.lemmas.Bool.{eqb-false}
 use Rattle.laws.specs.Bools.{by_test, cond_true, cond_false}
 use Rattle.laws.specs.Choice.{then, else}
 use Rattle.trace.specs.declared.Fault.{Fault}
-use Rattle.trace.specs.declared.number.NumberRead.{NumberRead}
-use Rattle.trace.specs.declared.number.NumberRead.TheVariants.{Number, Bad}
 use Rattle.trace.specs.Numbers.{onto, last_group, later_groups, number_on, number_at, group_bytes, number_bytes}
 use Rattle.trace.specs.NumberLaws.{bytes_short, bytes_long, Held, held_step, held_next}
 
 -- ---- written, then read
 
 -- a last group
-last_back : (at n : ℕ) → 0 < n → last_group at n ≡ Number n (at + 1)
+last_back : (at n : ℕ) → 0 < n → last_group at n ≡ Ok (n, at + 1)
 last_back at n p = sym (else (eqb n 0) _ _ _ (ne_eqb n 0 (λ e. omega arith)) refl)
 
 -- a number of several groups, once its upper groups read back
-module _ (at n : ℕ) (rest : List ℕ) (upper : NumberRead) (long : 128 ≤ n) (back : upper ≡ Number (n / 128) (at + 1 + length rest)) where
-  joined : onto (n % 128 + 128 - 128) 128 upper ≡ Number n (at + length ((n % 128 + 128) ∷ rest))
+module _ (at n : ℕ) (rest : List ℕ) (upper : Result (ℕ × ℕ) Fault) (long : 128 ≤ n) (back : upper ≡ Ok (n / 128, at + 1 + length rest)) where
+  joined : onto (n % 128 + 128 - 128) 128 upper ≡ Ok (n, at + length ((n % 128 + 128) ∷ rest))
   joined =
       ap (onto (n % 128 + 128 - 128) 128) back
-      ∙ ap (λ (k : ℕ). Number k (at + 1 + length rest)) (omega arith)
-      ∙ ap (Number n) (omega arith)
+      ∙ ap (λ (k : ℕ). Ok (k, at + 1 + length rest)) (omega arith)
+      ∙ ap (λ (k : ℕ). Ok (n, k)) (omega arith)
 
-later_back : (more at n : ℕ) (ys : List ℕ) → 0 < n → Held more n → later_groups more at (group_bytes more n ++ ys) ≡ Number n (at + length (group_bytes more n))
+later_back : (more at n : ℕ) (ys : List ℕ) → 0 < n → Held more n → later_groups more at (group_bytes more n ++ ys) ≡ Ok (n, at + length (group_bytes more n))
 later_back zero at n ys p h =
     rw (bytes_short zero n (omega arith)) (sym (else (ltb 15 n) _ _ _ (le-ltb 15 n (omega arith)) refl) ∙ last_back at n p)
 later_back (suc more) at n ys p h =
@@ -40,7 +38,7 @@ later_back (suc more) at n ys p h =
           ∙ joined at n (group_bytes more (n / 128)) _ l (later_back more (at + 1) (n / 128) ys (omega arith) (held_next more n h)))
     ]
 
-on_back : (at n : ℕ) (ys : List ℕ) → n < 4294967296 → number_on at (number_bytes n ++ ys) ≡ Number n (at + length (number_bytes n))
+on_back : (at n : ℕ) (ys : List ℕ) → n < 4294967296 → number_on at (number_bytes n ++ ys) ≡ Ok (n, at + length (number_bytes n))
 unfolding number_bytes
 on_back at n ys h =
     elim (dec_lt n 128) [
@@ -53,13 +51,13 @@ on_back at n ys h =
     ]
 
 pub number_at_lem : (d : List ℕ) (at n : ℕ) (ys : List ℕ) → n < 4294967296 → drop at d ≡ number_bytes n ++ ys
-    → number_at d at ≡ Number n (at + length (number_bytes n))
+    → number_at d at ≡ Ok (n, at + length (number_bytes n))
 unfolding number_at
 number_at_lem d at n ys h e = ap (number_on at) e ∙ on_back at n ys h
 
 -- a number's bytes at any place of any list read back as the number and the place after them
 pub number_back : (xs ys : List ℕ) (n : ℕ) → n < 4294967296
-    → number_at (xs ++ number_bytes n ++ ys) (length xs) ≡ Number n (length xs + length (number_bytes n))
+    → number_at (xs ++ number_bytes n ++ ys) (length xs) ≡ Ok (n, length xs + length (number_bytes n))
 number_back xs ys n h =
     number_at_lem (xs ++ number_bytes n ++ ys) (length xs) n ys h
     (ap (drop (length xs)) (append_assoc xs (number_bytes n) ys) ∙ drop-append_seam xs (number_bytes n ++ ys))
@@ -85,22 +83,26 @@ record Later (more at : ℕ) (l : List ℕ) (n next : ℕ) : Type 0 where
   held : Held more n
   begins : Begins at l (group_bytes more n) next
 
-never : {A : Type 0} {f : Fault} {n next : ℕ} → Bad f ≡ Number n next → A
+-- a number that was read
+abbrev read : ℕ → ℕ → Result (ℕ × ℕ) Fault
+read n next = Ok (n, next)
+
+never : {A : Type 0} {f : Fault} {n next : ℕ} → Err f ≡ read n next → A
 never e = absurd (let z : ◌≡◌ {A = ℕ} 0 1 = cc in omega arith)
 
-value_same : {n next m next' : ℕ} → Number n next ≡ Number m next' → n ≡ m
-value_same e = cc
+value_same : {n next m next' : ℕ} → read n next ≡ read m next' → n ≡ m
+value_same {n} {next} {m} {next'} e = let p : ◌≡◌ {A = ℕ × ℕ} (n, next) (m, next') = cc in ap (λ (x : ℕ × ℕ). x.0) p
 
-place_same : {n next m next' : ℕ} → Number n next ≡ Number m next' → next ≡ next'
-place_same e = cc
+place_same : {n next m next' : ℕ} → read n next ≡ read m next' → next ≡ next'
+place_same {n} {next} {m} {next'} e = let p : ◌≡◌ {A = ℕ × ℕ} (n, next) (m, next') = cc in ap (λ (x : ℕ × ℕ). x.1) p
 
 -- the last group of several
-last_told : (more at b : ℕ) (bs : List ℕ) {n next : ℕ} → b < 128 → Held more b → last_group at b ≡ Number n next → Later more at (b ∷ bs) n next
+last_told : (more at b : ℕ) (bs : List ℕ) {n next : ℕ} → b < 128 → Held more b → last_group at b ≡ Ok (n, next) → Later more at (b ∷ bs) n next
 last_told more at b bs {n} {next} s h e =
     by_test (eqb b 0)
     (λ z. never (sym (cond_true (eqb b 0) _ _ z) ∙ e))
     (λ z.
-    let q : Number b (at + 1) ≡ Number n next = sym (cond_false (eqb b 0) _ _ z) ∙ e in
+    let q : read b (at + 1) ≡ read n next = sym (cond_false (eqb b 0) _ _ z) ∙ e in
     let v : b ≡ n = value_same q in
     let p : at + 1 ≡ next = place_same q in
     let f : b ≡ 0 → ⊥ = eqb-false b 0 z in
@@ -146,12 +148,12 @@ module _ (more at b m next : ℕ) (bs : List ℕ) (byte : b < 256) (top : 128 �
       omega arith
 
 -- what is above a group that has more
-above_told : {A : Type 0} (low : ℕ) (r : NumberRead) {n next : ℕ} → onto low 128 r ≡ Number n next
-    → ((m : ℕ) → r ≡ Number m next → low + 128 * m ≡ n → A) → A
-above_told low (Number m e) {n} {next} q k = k m (ap (Number m) (place_same q)) (value_same q)
-above_told low (Bad f) q k = never q
+above_told : {A : Type 0} (low : ℕ) (r : Result (ℕ × ℕ) Fault) {n next : ℕ} → onto low 128 r ≡ Ok (n, next)
+    → ((m : ℕ) → r ≡ Ok (m, next) → low + 128 * m ≡ n → A) → A
+above_told low (Ok (m, e)) {n} {next} q k = k m (ap (read m) (place_same q)) (value_same q)
+above_told low (Err f) q k = never q
 
-later_told : (more at : ℕ) (l : List ℕ) {n next : ℕ} → Bytes l → later_groups more at l ≡ Number n next → Later more at l n next
+later_told : (more at : ℕ) (l : List ℕ) {n next : ℕ} → Bytes l → later_groups more at l ≡ Ok (n, next) → Later more at l n next
 later_told more at [] h e = never e
 later_told zero at (b ∷ bs) {n} {next} h e =
     by_test (ltb 15 b)
@@ -187,14 +189,14 @@ record OnTold (at : ℕ) (l : List ℕ) (n next : ℕ) : Type 0 where
   low : n < 4294967296
   begins : Begins at l (number_bytes n) next
 
-on_told : (at : ℕ) (l : List ℕ) {n next : ℕ} → Bytes l → number_on at l ≡ Number n next → OnTold at l n next
+on_told : (at : ℕ) (l : List ℕ) {n next : ℕ} → Bytes l → number_on at l ≡ Ok (n, next) → OnTold at l n next
 unfolding number_bytes
 on_told at [] h e = never e
 on_told at (b ∷ bs) {n} {next} h e =
     by_test (ltb b 128)
     (λ t.
     let s : b < 128 = ltb-true b 128 t in
-    let q : Number b (at + 1) ≡ Number n next = sym (cond_true (ltb b 128) _ _ t) ∙ e in
+    let q : read b (at + 1) ≡ read n next = sym (cond_true (ltb b 128) _ _ t) ∙ e in
     subst (λ (k : ℕ). OnTold at (b ∷ bs) k next) (value_same q)
     (record {
       low = omega arith;
@@ -221,7 +223,7 @@ pub record Stands (d : List ℕ) (at n next : ℕ) : Type 0 where
   pub place : next ≡ at + length (number_bytes n)
   pub bytes : drop at d ≡ number_bytes n ++ drop next d
 
-pub number_stands : (d : List ℕ) (at : ℕ) {n next : ℕ} → Bytes d → number_at d at ≡ Number n next → Stands d at n next
+pub number_stands : (d : List ℕ) (at : ℕ) {n next : ℕ} → Bytes d → number_at d at ≡ Ok (n, next) → Stands d at n next
 unfolding number_at
 number_stands d at {n} {next} h e =
     let o : OnTold at (drop at d) n next = on_told at (drop at d) (bytes_drop d at h) e in

@@ -1,7 +1,7 @@
 -- What a writer leaves in the output that it was lent, and what it answers.
-use Rattle.std.specs.Prelude.{ℕ, ◌+◌, ◌≡◌, Bool, false, cond, List, ◌++◌, leb, ltb, length, take, drop}
-use Rattle.trace.specs.declared.output.Written.{Written}
-use Rattle.trace.specs.declared.output.Written.TheVariants.{Next, NoRoom, TooLong}
+use Rattle.std.specs.Prelude.{ℕ, ◌+◌, ◌≡◌, Bool, false, cond, List, ◌++◌, leb, ltb, length, take, drop, Result, Ok, Err}
+use Rattle.trace.specs.declared.output.WriteError.{WriteError}
+use Rattle.trace.specs.declared.output.WriteError.TheVariants.{NoRoom, TooLong}
 use Rattle.trace.specs.Records.{Record, reading, frame, record_bytes}
 
 -- the output d with s at a place, and every other byte as it was
@@ -17,13 +17,13 @@ abbrev pub has_room : List ℕ → ℕ → List ℕ → Bool
 has_room d at s = leb (at + length s) (length d)
 
 -- s is written whole, or not at all
-abbrev pub answer_of : List ℕ → ℕ → List ℕ → Written
-answer_of d at s = cond (has_room d at s) (Next (at + length s)) NoRoom
+abbrev pub answer_of : List ℕ → ℕ → List ℕ → Result ℕ WriteError
+answer_of d at s = cond (has_room d at s) (Ok (at + length s)) (Err NoRoom)
 
 abbrev pub output_of : List ℕ → ℕ → List ℕ → List ℕ
 output_of d at s = cond (has_room d at s) (placed d at s) d
 
-pub record NumberWritten (d : List ℕ) (at : ℕ) (s : List ℕ) (r : Written) (output : List ℕ) : Type 0 where
+pub record NumberWritten (d : List ℕ) (at : ℕ) (s : List ℕ) (r : Result ℕ WriteError) (output : List ℕ) : Type 0 where
   pub answer : r ≡ answer_of d at s
   pub bytes : output ≡ output_of d at s
 
@@ -32,6 +32,6 @@ abbrev pub too_long : Record → Bool
 too_long (reading value) = false
 too_long (frame identifier data') = ltb 64 (length data')
 
-pub record RecordWritten (d : List ℕ) (at : ℕ) (x : Record) (r : Written) (output : List ℕ) : Type 0 where
-  pub answer : r ≡ cond (too_long x) TooLong (answer_of d at (record_bytes x))
+pub record RecordWritten (d : List ℕ) (at : ℕ) (x : Record) (r : Result ℕ WriteError) (output : List ℕ) : Type 0 where
+  pub answer : r ≡ cond (too_long x) (Err TooLong) (answer_of d at (record_bytes x))
   pub bytes : output ≡ cond (too_long x) d (output_of d at (record_bytes x))

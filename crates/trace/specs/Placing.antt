@@ -1,14 +1,14 @@
 -- Laws of bytes put into an output one after another.
-use Rattle.std.specs.Prelude.{ℕ, zero, suc, ◌+◌, ◌-◌, ◌<◌, ◌≤◌, leb, Bool, true, false, not, ◌≡◌, refl, List, [], ◌∷◌, ◌++◌, length, get_or, set, take, drop}
-use Rattle.std.proofs.Common.{add_assoc, add-one, arith, le-leb, leb-true, sym, ap, ◌∙◌, append_assoc, length-append, length-drop, take_at, drop_at, drop-drop, length-take-le}
+use Rattle.std.specs.Prelude.{ℕ, zero, suc, ◌+◌, ◌-◌, ◌<◌, ◌≤◌, leb, true, false, ◌≡◌, refl, List, [], ◌∷◌, ◌++◌, length, get_or, set, take, drop, Result, Ok, Err}
+use Rattle.std.proofs.Common.{add_assoc, add-one, arith, le-leb, sym, ap, ◌∙◌, append_assoc, length-append, length-drop, take_at, drop_at, drop-drop, length-take-le}
 use Rattle.std.proofs.Math.Decide.{dec_le}
-use Rattle.std.proofs.lemmas.Bool.{lt-leb, not-true, not-false}
+use Rattle.std.proofs.lemmas.Bool.{lt-leb}
 use Rattle.laws.specs.Choice.{then, else}
 use Rattle.laws.specs.Pastes.{paste_whole}
 use Rattle.std.proofs.Math.Seq.{paste, paste-suc}
 use Rattle.std.proofs.lemmas.List.Edits.{length-paste}
-use Rattle.trace.specs.declared.output.Written.{Written}
-use Rattle.trace.specs.declared.output.Written.TheVariants.{Next, NoRoom, TooLong}
+use Rattle.trace.specs.declared.output.WriteError.{WriteError}
+use Rattle.trace.specs.declared.output.WriteError.TheVariants.{NoRoom, TooLong}
 use Rattle.trace.specs.Records.{Record, record_bytes}
 use Rattle.trace.specs.Outputs.{placed, Put, has_room, NumberWritten, too_long, RecordWritten}
 
@@ -102,29 +102,26 @@ module _ {d a out : List ℕ} {at next : ℕ} (b : List ℕ) (p : Put d at a nex
       }
 
 -- the test for room was made with the size of s
-module _ (d : List ℕ) (at : ℕ) (s : List ℕ) {need : ℕ} {room : Bool} (size : need ≡ length s) (told : room ≡ leb (at + need) (length d)) where
-  told_room : room ≡ has_room d at s
-  told_room = told ∙ ap (λ (k : ℕ). leb (at + k) (length d)) size
+module _ (d : List ℕ) (at : ℕ) (s : List ℕ) {need : ℕ} (size : need ≡ length s) where
+  pub room_told : at + need ≤ length d → at + length s ≤ length d
+  room_told h = omega arith
 
-  pub room_told : not room ≡ false → at + length s ≤ length d
-  room_told h = leb-true (at + length s) (length d) (sym told_room ∙ not-false room h)
-
-  pub written_none : not room ≡ true → NumberWritten d at s NoRoom d
+  pub written_none : length d < at + need → NumberWritten d at s (Err NoRoom) d
   written_none h =
-      let e : has_room d at s ≡ false = sym told_room ∙ not-true room h in
+      let e : has_room d at s ≡ false = lt-leb (at + length s) (length d) (omega arith) in
       record { answer = else (has_room d at s) _ _ _ e refl; bytes = else (has_room d at s) _ _ _ e refl }
 
-  pub written_all : {next : ℕ} {out : List ℕ} → not room ≡ false → Put d at s next out → NumberWritten d at s (Next next) out
-  written_all h p =
-      let e : has_room d at s ≡ true = sym told_room ∙ not-false room h in
-      record { answer = then (has_room d at s) _ _ _ e (ap Next p.place); bytes = then (has_room d at s) _ _ _ e p.bytes }
+  pub written_all : {next : ℕ} {out : List ℕ} → at + need ≤ length d → Put d at s next out → NumberWritten d at s (Ok next) out
+  written_all {next} {out} h p =
+      let e : has_room d at s ≡ true = le-leb (at + length s) (length d) (omega arith) in
+      record { answer = then (has_room d at s) _ _ _ e (ap (λ (k : ℕ). Ok k) p.place); bytes = then (has_room d at s) _ _ _ e p.bytes }
 
 -- a record that is not too long is written as its bytes are
-pub written_record : {d out : List ℕ} {at : ℕ} {r : Written} (x : Record) → too_long x ≡ false → NumberWritten d at (record_bytes x) r out → RecordWritten d at x r out
+pub written_record : {d out : List ℕ} {at : ℕ} {r : Result ℕ WriteError} (x : Record) → too_long x ≡ false → NumberWritten d at (record_bytes x) r out → RecordWritten d at x r out
 written_record x h w =
     record { answer = else (too_long x) _ _ _ h w.answer; bytes = else (too_long x) _ _ _ h w.bytes }
 
-pub written_long : {d : List ℕ} {at : ℕ} (x : Record) → too_long x ≡ true → RecordWritten d at x TooLong d
+pub written_long : {d : List ℕ} {at : ℕ} (x : Record) → too_long x ≡ true → RecordWritten d at x (Err TooLong) d
 written_long x h = record { answer = then (too_long x) _ _ _ h refl; bytes = then (too_long x) _ _ _ h refl }
 
 -- sizes added up

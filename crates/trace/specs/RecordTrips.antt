@@ -1,17 +1,15 @@
 -- A record that is written reads back, and only a record that is written so reads.
-use Rattle.std.specs.Prelude.{ℕ, ◌+◌, ◌-◌, ◌<◌, ◌≤◌, ◌≡◌, refl, Bool, true, false, cond, List, ◌++◌, ltb, leb, eqb, length, take, drop}
+use Rattle.std.specs.Prelude.{ℕ, ◌+◌, ◌-◌, ◌<◌, ◌≤◌, ◌≡◌, refl, Bool, true, false, cond, List, ◌++◌, ltb, leb, eqb, length, take, drop, Some, None, Result, Ok, Err}
 use Rattle.std.proofs.Common.{add_assoc, arith, sym, ap, subst, ◌∙◌, append_assoc, length-append, length-drop, take-append-drop, drop-drop, drop_at, length-take-le, le-ltb, ltb-false, eqb-true}
-use Rattle.std.proofs.lemmas.Bool.{false≢true, lt-leb}
+use Rattle.std.proofs.lemmas.Bool.{lt-leb}
 use Rattle.std.proofs.Math.Seq.{drop-append_seam, take-append_seam}
 use Rattle.laws.specs.Choice.{else}
 use Rattle.trace.specs.declared.Fault.{Fault}
-use Rattle.trace.specs.declared.Fault.TheVariants.{Cut, NotShortest, TooLarge, Kind, Length}
-use Rattle.trace.specs.declared.number.NumberRead.{NumberRead}
-use Rattle.trace.specs.declared.number.NumberRead.TheVariants as number
-use Rattle.trace.specs.declared.record.RecordRead.{RecordRead}
-use Rattle.trace.specs.declared.record.RecordRead.TheVariants.{End, Reading, Frame, More, Bad}
+use Rattle.trace.specs.declared.Fault.TheVariants.{Cut, Kind, Length}
+use Rattle.trace.specs.declared.record.Record.{Record as Found}
+use Rattle.trace.specs.declared.record.Record.TheVariants.{Reading, Frame}
 use Rattle.trace.specs.Numbers.{number_at, number_bytes}
-use Rattle.trace.specs.Records.{faulted, on_number, reading_at, bytes_at, length_at, frame_at, by_kind, record_at, Record, reading, frame, record_bytes, Good, says, nothing, said}
+use Rattle.trace.specs.Records.{on_number, reading_found, reading_at, bytes_at, length_at, frame_at, by_kind, found, record_at, Record, reading, frame, record_bytes, Good, Said, says, nothing, said}
 use Rattle.trace.specs.Outputs.{placed}
 use Rattle.trace.specs.NumberLaws.{size_some}
 use Rattle.trace.specs.NumberTrips.{Bytes, number_at_lem, Stands, number_stands}
@@ -23,23 +21,23 @@ after_piece d at s {rest} e = sym (drop-drop (length s) at d) ∙ ap (drop (leng
 
 -- a record whose kind reads
 by_kind_back : (d : List ℕ) (at kind : ℕ) (rest : List ℕ) → kind < 4294967296 → drop at d ≡ number_bytes kind ++ rest
-    → record_at d at ≡ by_kind d kind (at + length (number_bytes kind))
+    → record_at d at ≡ found (by_kind d kind (at + length (number_bytes kind)))
 unfolding record_at
 by_kind_back d at kind rest h e =
     let inside : at < length d = omega (arith, length-drop at d, ap length e, length-append (number_bytes kind) rest, size_some kind) in
     sym (else (leb (length d) at) _ _ _ (lt-leb (length d) at inside) refl)
-    ∙ ap (λ (r : NumberRead). on_number r (by_kind d)) (number_at_lem d at kind rest h e)
+    ∙ ap (λ (r : Result (ℕ × ℕ) Fault). found (on_number r (by_kind d))) (number_at_lem d at kind rest h e)
 
 -- a reading's record, wherever it is
 pub reading_at_lem : (d : List ℕ) (at value : ℕ) (rest : List ℕ) → value < 4294967296 → drop at d ≡ record_bytes (reading value) ++ rest
-    → record_at d at ≡ Reading value (at + length (record_bytes (reading value)))
+    → record_at d at ≡ Ok (Some (Reading value (at + length (record_bytes (reading value)))))
 reading_at_lem d at value rest h e =
     let A : List ℕ = number_bytes 0 in
     let B : List ℕ = number_bytes value in
     let whole : drop at d ≡ A ++ (B ++ rest) = e ∙ append_assoc A B rest in
     by_kind_back d at 0 (B ++ rest) (omega arith) whole
-    ∙ ap (λ (r : NumberRead). on_number r Reading) (number_at_lem d (at + length A) value rest h (after_piece d at A whole))
-    ∙ ap (Reading value) (add_assoc at (length A) (length B) ∙ ap (λ (k : ℕ). at + k) (sym (length-append A B)))
+    ∙ ap (λ (r : Result (ℕ × ℕ) Fault). found (on_number r reading_found)) (number_at_lem d (at + length A) value rest h (after_piece d at A whole))
+    ∙ ap (λ (k : ℕ). Ok (Some (Reading value k))) (add_assoc at (length A) (length B) ∙ ap (λ (k : ℕ). at + k) (sym (length-append A B)))
 
 -- where a frame's bytes start, after the kind, the identifier and the length
 abbrev pub start_of : ℕ → ℕ → List ℕ → ℕ
@@ -64,17 +62,18 @@ module _ (d : List ℕ) (at identifier : ℕ) (bytes rest : List ℕ) (e : drop 
   frame_window = ap (take (length bytes)) frame_bytes ∙ take-append_seam bytes rest
 
   pub frame_at_lem : identifier < 4294967296 → length bytes ≤ 64
-      → record_at d at ≡ Frame identifier (start_of at identifier bytes) (length bytes) (at + length (record_bytes (frame identifier bytes)))
+      → record_at d at ≡ Ok (Some (Frame identifier (start_of at identifier bytes) (length bytes) (at + length (record_bytes (frame identifier bytes)))))
   frame_at_lem h g =
       let s : ℕ = start_of at identifier bytes in
       let room : length bytes ≤ length d - s = omega (arith, length-drop s d, ap length frame_bytes, length-append bytes rest) in
       by_kind_back d at 1 (number_bytes identifier ++ (number_bytes (length bytes) ++ (bytes ++ rest))) (omega arith) frame_whole
-      ∙ ap (λ (r : NumberRead). on_number r (length_at d)) (number_at_lem d (at + length (number_bytes 1)) identifier (number_bytes (length bytes) ++ (bytes ++ rest)) h frame_identifier)
-      ∙ ap (λ (r : NumberRead). on_number r (bytes_at (length d) identifier))
+      ∙ ap (λ (r : Result (ℕ × ℕ) Fault). found (on_number r (length_at d))) (number_at_lem d (at + length (number_bytes 1)) identifier (number_bytes (length bytes) ++ (bytes ++ rest)) h frame_identifier)
+      ∙ ap (λ (r : Result (ℕ × ℕ) Fault). found (on_number r (bytes_at (length d) identifier)))
       (number_at_lem d (at + length (number_bytes 1) + length (number_bytes identifier)) (length bytes) (bytes ++ rest) (omega arith) frame_length_lem)
-      ∙ sym (else (ltb 64 (length bytes)) _ _ _ (le-ltb 64 (length bytes) g) refl)
-      ∙ sym (else (ltb (length d - s) (length bytes)) _ _ _ (le-ltb (length d - s) (length bytes) room) refl)
-      ∙ ap (Frame identifier s (length bytes))
+      ∙ ap found
+      (sym (else (ltb 64 (length bytes)) _ _ _ (le-ltb 64 (length bytes) g) refl)
+      ∙ sym (else (ltb (length d - s) (length bytes)) _ _ _ (le-ltb (length d - s) (length bytes) room) refl))
+      ∙ ap (λ (k : ℕ). Ok (Some (Frame identifier s (length bytes) k)))
       (sym (ap (λ (k : ℕ). at + k)
       (length-append (number_bytes 1) (number_bytes identifier ++ (number_bytes (length bytes) ++ bytes))
       ∙ ap (λ (k : ℕ). length (number_bytes 1) + k)
@@ -101,25 +100,22 @@ record_back xs ys x g =
 silent : {A : Type 0} {x : Record} {next : ℕ} → nothing ≡ says x next → A
 silent e = absurd (let z : ◌≡◌ {A = ℕ} 0 1 = cc in omega arith)
 
-said_faulted : (d : List ℕ) (f : Fault) → said d (faulted f) ≡ nothing
-said_faulted d Cut = refl
-said_faulted d NotShortest = refl
-said_faulted d TooLarge = refl
-said_faulted d Kind = refl
-said_faulted d Length = refl
+-- what a record found says
+abbrev told : List ℕ → Result Found Fault → Said
+told d r = said d (found r)
 
 -- where a record says something, the number that comes next in it reads
-number_said : {A : Type 0} (d : List ℕ) (r : NumberRead) (rest : ℕ → ℕ → RecordRead) {x : Record} {next : ℕ}
-    → said d (on_number r rest) ≡ says x next
-    → ((n after : ℕ) → r ≡ number.Number n after → said d (rest n after) ≡ says x next → A) → A
-number_said d (number.Number n after) rest e k = k n after refl e
-number_said d (number.Bad f) rest e k = silent (sym (said_faulted d f) ∙ e)
+number_said : {A : Type 0} (d : List ℕ) (r : Result (ℕ × ℕ) Fault) (rest : ℕ → ℕ → Result Found Fault) {x : Record} {next : ℕ}
+    → told d (on_number r rest) ≡ says x next
+    → ((n after : ℕ) → r ≡ Ok (n, after) → told d (rest n after) ≡ says x next → A) → A
+number_said d (Ok (n, after)) rest e k = k n after refl e
+number_said d (Err f) rest e k = silent e
 
 -- and a test in it goes the way that says something
-test_said : {A : Type 0} (d : List ℕ) (t : Bool) (a b : RecordRead) {x : Record} {next : ℕ} → said d (cond t a b) ≡ says x next
-    → (t ≡ true → said d a ≡ says x next → A) → (t ≡ false → said d b ≡ says x next → A) → A
-test_said d true a b e p q = p refl e
-test_said d false a b e p q = q refl e
+test_said : {A R : Type 0} (say : R → Said) (t : Bool) (a b : R) {x : Record} {next : ℕ} → say (cond t a b) ≡ says x next
+    → (t ≡ true → say a ≡ says x next → A) → (t ≡ false → say b ≡ says x next → A) → A
+test_said say true a b e p q = p refl e
+test_said say false a b e p q = q refl e
 
 -- a record read at a place of a list of bytes is one of the format, its bytes are there, and nothing else reads as it
 pub record RecordStands (d : List ℕ) (at : ℕ) (x : Record) (next : ℕ) : Type 0 where
@@ -183,28 +179,28 @@ module _ (d : List ℕ) (at : ℕ) (h : Bytes d) where
       grouped a b c e f = simp append_assoc
 
   frame_told : (at₁ at₂ identifier n start : ℕ) {x : Record} {next : ℕ} → Stands d at 1 at₁ → Stands d at₁ identifier at₂ → Stands d at₂ n start
-      → said d (bytes_at (length d) identifier n start) ≡ says x next → RecordStands d at x next
+      → told d (bytes_at (length d) identifier n start) ≡ says x next → RecordStands d at x next
   frame_told at₁ at₂ identifier n start {x} {next} s t u e =
-      test_said d (ltb 64 n) (Bad Length) (cond (ltb (length d - start) n) More (Frame identifier start n (start + n))) e (λ _ q. silent q)
+      test_said (told d) (ltb 64 n) (Err Length) (cond (ltb (length d - start) n) (Err Cut) (Ok (Frame identifier start n (start + n)))) e (λ _ q. silent q)
       (λ long e₁.
-      test_said d (ltb (length d - start) n) More (Frame identifier start n (start + n)) e₁ (λ _ q. silent q)
+      test_said (told d) (ltb (length d - start) n) (Err Cut) (Ok (Frame identifier start n (start + n))) e₁ (λ _ q. silent q)
       (λ room e₂.
       subst (λ (y : Record). RecordStands d at y next) (record_same e₂)
       (subst (λ (k : ℕ). RecordStands d at (frame identifier (take n (drop start d))) k) (after_same e₂)
       (frame_stands at₁ identifier at₂ n start s t u (ltb-false 64 n long) (ltb-false (length d - start) n room)))))
 
-  kind_told : (kind at₁ : ℕ) {x : Record} {next : ℕ} → Stands d at kind at₁ → said d (by_kind d kind at₁) ≡ says x next → RecordStands d at x next
+  kind_told : (kind at₁ : ℕ) {x : Record} {next : ℕ} → Stands d at kind at₁ → told d (by_kind d kind at₁) ≡ says x next → RecordStands d at x next
   kind_told kind at₁ {x} {next} s e =
-      test_said d (eqb kind 0) (reading_at d at₁) (cond (eqb kind 1) (frame_at d at₁) (Bad Kind)) e
+      test_said (told d) (eqb kind 0) (reading_at d at₁) (cond (eqb kind 1) (frame_at d at₁) (Err Kind)) e
       (λ z e₁.
       let s₀ : Stands d at 0 at₁ = subst (λ (k : ℕ). Stands d at k at₁) (eqb-true kind 0 z) s in
-      number_said d (number_at d at₁) Reading e₁
+      number_said d (number_at d at₁) reading_found e₁
       (λ value after q e₂.
       subst (λ (y : Record). RecordStands d at y next) (record_same e₂)
       (subst (λ (k : ℕ). RecordStands d at (reading value) k) (after_same e₂)
       (reading_stands at₁ value after s₀ (number_stands d at₁ h q)))))
       (λ _ e₁.
-      test_said d (eqb kind 1) (frame_at d at₁) (Bad Kind) e₁
+      test_said (told d) (eqb kind 1) (frame_at d at₁) (Err Kind) e₁
       (λ z e₂.
       let s₁ : Stands d at 1 at₁ = subst (λ (k : ℕ). Stands d at k at₁) (eqb-true kind 1 z) s in
       number_said d (number_at d at₁) (length_at d) e₂
@@ -216,7 +212,7 @@ module _ (d : List ℕ) (at : ℕ) (h : Bytes d) where
   pub record_stands : {x : Record} {next : ℕ} → said d (record_at d at) ≡ says x next → RecordStands d at x next
   unfolding record_at
   record_stands e =
-      test_said d (leb (length d) at) End (on_number (number_at d at) (by_kind d)) e (λ _ q. silent q)
+      test_said (said d) (leb (length d) at) (Ok None) (found (on_number (number_at d at) (by_kind d))) e (λ _ q. silent q)
       (λ _ e₁.
       number_said d (number_at d at) (by_kind d) e₁
       (λ kind at₁ q e₂. kind_told kind at₁ (number_stands d at h q) e₂))
@@ -229,48 +225,3 @@ placed_back d at x g h =
     let rest : List ℕ = drop (at + length s) d in
     says_at (placed d at s) at x rest g
     (ap (drop at) (append_assoc (take at d) s rest) ∙ drop_at (take at d) (s ++ rest) at (length-take-le at d h))
-
--- ---- a cut is never a bad record
-
-abbrev bad_cut : RecordRead → Bool
-bad_cut (Bad Cut) = true
-bad_cut (Bad NotShortest) = false
-bad_cut (Bad TooLarge) = false
-bad_cut (Bad Kind) = false
-bad_cut (Bad Length) = false
-bad_cut End = false
-bad_cut More = false
-bad_cut (Reading value next) = false
-bad_cut (Frame identifier start n next) = false
-
-uncut_test : (t : Bool) (a b : RecordRead) → bad_cut a ≡ false → bad_cut b ≡ false → bad_cut (cond t a b) ≡ false
-uncut_test true a b p q = p
-uncut_test false a b p q = q
-
-uncut_number : (r : NumberRead) (rest : ℕ → ℕ → RecordRead) → ((n next : ℕ) → bad_cut (rest n next) ≡ false) → bad_cut (on_number r rest) ≡ false
-uncut_number (number.Number n next) rest h = h n next
-uncut_number (number.Bad Cut) rest h = refl
-uncut_number (number.Bad NotShortest) rest h = refl
-uncut_number (number.Bad TooLarge) rest h = refl
-uncut_number (number.Bad Kind) rest h = refl
-uncut_number (number.Bad Length) rest h = refl
-
-uncut : (d : List ℕ) (at : ℕ) → bad_cut (record_at d at) ≡ false
-unfolding record_at
-uncut d at =
-    uncut_test (leb (length d) at) End (on_number (number_at d at) (by_kind d)) refl
-    (uncut_number (number_at d at) (by_kind d)
-    (λ kind at₁.
-    uncut_test (eqb kind 0) (reading_at d at₁) (cond (eqb kind 1) (frame_at d at₁) (Bad Kind))
-    (uncut_number (number_at d at₁) Reading (λ n next. refl))
-    (uncut_test (eqb kind 1) (frame_at d at₁) (Bad Kind)
-    (uncut_number (number_at d at₁) (length_at d)
-    (λ identifier at₂.
-    uncut_number (number_at d at₂) (bytes_at (length d) identifier)
-    (λ n start.
-    uncut_test (ltb 64 n) (Bad Length) (cond (ltb (length d - start) n) More (Frame identifier start n (start + n))) refl
-    (uncut_test (ltb (length d - start) n) More (Frame identifier start n (start + n)) refl refl))))
-    refl)))
-
-pub never_cut : (d : List ℕ) (at : ℕ) → record_at d at ≡ Bad Cut → ⊥
-never_cut d at e = false≢true (sym (uncut d at) ∙ ap bad_cut e)

@@ -6,9 +6,9 @@ pub mod output;
 pub mod record;
 
 // Why bytes are no number or no record.
-#[derive(Clone, Copy)]
+#[derive(Clone, Copy, PartialEq, Eq, Debug)]
 pub enum Fault {
-    // the bytes end inside a number that is good so far
+    // the bytes end inside a number or a record that is good so far: more of them may follow
     Cut,
     // the last group is 0 although it is not the only one
     NotShortest,

@@ -1,87 +1,72 @@
 // Numbers: groups of seven bits, low group first, top bit set when more follow, shortest form only, below 4,294,967,296.
-ghost use Rattle.std.specs.Prelude.{◌≡◌, ◌+◌, ◌*◌, ◌^◌, ◌<◌, ◌≤◌, length, drop};
+ghost use Rattle.std.specs.Prelude.{◌≡◌, ◌+◌, ◌*◌, ◌^◌, ◌<◌, ◌≤◌, length, get_or, drop, MatchResult};
+ghost use Rattle.trace.specs.declared.Fault.TheVariants.{Cut};
 ghost use Rattle.trace.specs.Numbers.{number_at, later_groups, last_group, onto, number_bytes};
 ghost use Rattle.trace.specs.Outputs.{Put, NumberWritten};
 
-use super::output::Written;
+use super::output::WriteError;
 use super::{Fault, output};
 
-#[derive(Clone, Copy)]
-pub enum NumberRead {
-    // the number, and the place after it
-    Number(u32, usize),
-    Bad(Fault),
-}
-
-fn wide(x: u8) -> u32
-    ensures { (result ≡ x) × (result < 256) }
+// The byte at a place: seven bits, and 128 more where another group follows.
+fn group(s: &[u8], at: usize) -> Result<u32, Fault>
+    ensures { MatchResult result (λ b. (at < length s.now) × (b ≡ get_or s.now at 0) × (b < 256)) (λ f. (length s.now ≤ at) × (f ≡ Cut)) }
 {
-    x as u32
+    match s.get(at) {
+        Some(&b) => Ok(u32::from(b)),
+        None => Err(Fault::Cut),
+    }
 }
 
-// The number at a place.
-pub fn read(s: &[u8], at: usize) -> NumberRead
+// The number at a place, and the place after it.
+pub fn read(s: &[u8], at: usize) -> Result<(u32, usize), Fault>
     ensures { result ≡ number_at s.now at }
 {
-    if s.len() <= at {
-        return NumberRead::Bad(Fault::Cut);
-    }
-    let b = wide(s[at]);
+    let b = group(s, at)?;
     if b < 128 {
-        return NumberRead::Number(b, at + 1);
+        return Ok((b, at + 1));
     }
     later_groups(s, at + 1, b - 128)
 }
 
 // The groups after the first, whose seven bits are low.
-fn later_groups(s: &[u8], start: usize, low: u32) -> NumberRead
+fn later_groups(s: &[u8], start: usize, low: u32) -> Result<(u32, usize), Fault>
     requires { low < 128 }
     ensures { result ≡ onto low 128 (later_groups 3 start (drop start s.now)) }
 {
     let mut value = low;
-    let mut scale: u32 = 128;
     let mut at = start;
-    let mut more: u32 = 3;
-    while 0 < more {
-        if s.len() <= at {
-            return NumberRead::Bad(Fault::Cut);
-        }
-        let b = wide(s[at]);
+    for scale in [128, 16384, 2097152] {
+        let b = group(s, at)?;
         if b < 128 {
             return last_group(b, at, value, scale);
         }
-        value = value + scale * (b - 128);
-        scale = scale * 128;
-        at = at + 1;
-        more = more - 1;
+        value += scale * (b - 128);
+        at += 1;
     }
     fifth_group(s, at, value)
 }
 
 // A fifth group has the top four of 32 bits and no more.
-fn fifth_group(s: &[u8], at: usize, value: u32) -> NumberRead
+fn fifth_group(s: &[u8], at: usize, value: u32) -> Result<(u32, usize), Fault>
     requires { value < 268435456 }
     ensures { result ≡ onto value 268435456 (later_groups 0 at (drop at s.now)) }
 {
-    if s.len() <= at {
-        return NumberRead::Bad(Fault::Cut);
-    }
-    let b = wide(s[at]);
+    let b = group(s, at)?;
     if 15 < b {
-        return NumberRead::Bad(Fault::TooLarge);
+        return Err(Fault::TooLarge);
     }
     last_group(b, at, value, 268435456)
 }
 
 // A last group that is not the first, above value.
-fn last_group(b: u32, at: usize, value: u32, scale: u32) -> NumberRead
+fn last_group(b: u32, at: usize, value: u32, scale: u32) -> Result<(u32, usize), Fault>
     requires { (at + 1 < 2 ^ 64) × (value + scale * b < 2 ^ 32) }
     ensures { result ≡ onto value scale (last_group at b) }
 {
     if b == 0 {
-        return NumberRead::Bad(Fault::NotShortest);
+        return Err(Fault::NotShortest);
     }
-    NumberRead::Number(value + scale * b, at + 1)
+    Ok((value + scale * b, at + 1))
 }
 
 // How many bytes a number has.
@@ -110,21 +95,20 @@ pub(crate) fn put(out: &mut [u8], at: usize, n: u32) -> usize
 {
     let mut i: usize = 0;
     let mut rest = n;
+    // a while: the number itself says when its groups end, and a for would have to count them first
     while 128 <= rest {
         out[at + i] = (rest % 128 + 128) as u8;
-        rest = rest / 128;
-        i = i + 1;
+        rest /= 128;
+        i += 1;
     }
     out[at + i] = rest as u8;
     at + i + 1
 }
 
-// Writes a number at a place, if there is room.
-pub fn write(out: &mut [u8], at: usize, n: u32) -> Written
+// Writes a number at a place, if there is room, and answers the place after it.
+pub fn write(out: &mut [u8], at: usize, n: u32) -> Result<usize, WriteError>
     ensures { NumberWritten out.old at (number_bytes n) result out.new }
 {
-    if !output::has_room(out.len(), at, size(n)) {
-        return Written::NoRoom;
-    }
-    Written::Next(put(out, at, n))
+    output::check_room(out.len(), at, size(n))?;
+    Ok(put(out, at, n))
 }

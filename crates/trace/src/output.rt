@@ -1,22 +1,23 @@
 // Bytes put into a lent output.
-ghost use Rattle.std.specs.Prelude.{◌≡◌, ◌+◌, leb};
+ghost use Rattle.std.specs.Prelude.{◌≡◌, ◌+◌, ◌<◌, ◌≤◌, MatchResult};
+ghost use Rattle.trace.specs.declared.output.WriteError.TheVariants.{NoRoom};
 
-#[derive(Clone, Copy)]
-pub enum Written {
-    // all is written, up to this place
-    Next(usize),
-    // nothing is written: the output has no room
+// Why nothing is written.
+#[derive(Clone, Copy, PartialEq, Eq, Debug)]
+pub enum WriteError {
+    // the output has no room
     NoRoom,
-    // nothing is written: a frame has at most 64 bytes
+    // a frame has at most 64 bytes
     TooLong,
 }
 
-// Whether need bytes fit from a place on into an output of the size.
-pub(crate) fn has_room(size: usize, at: usize, need: usize) -> bool
-    ensures { result ≡ leb (at + need) size }
+// Refuses need bytes that don't fit from a place on into an output of the size.
+pub(crate) fn check_room(size: usize, at: usize, need: usize) -> Result<(), WriteError>
+    ensures { MatchResult result (λ _. at + need ≤ size) (λ e. (e ≡ NoRoom) × (size < at + need)) }
 {
-    if size < at {
-        return false;
+    if at <= size && need <= size - at {
+        Ok(())
+    } else {
+        Err(WriteError::NoRoom)
     }
-    need <= size - at
 }

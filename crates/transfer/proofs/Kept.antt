@@ -1,11 +1,11 @@
 -- A transfer in bounds, as facts. Whatever is decided keeps it in bounds, and its numbers fit 32 bits.
-use Rattle.std.specs.Prelude.{ℕ, ◌<◌, Bool}
+use Rattle.std.specs.Prelude.{ℕ, ◌<◌, Bool, Option}
 use Rattle.transport.specs.declared.Key.{Key}
-use Rattle.transfer.specs.declared.State.{State}
 use Rattle.transfer.specs.Decisions.{announced_to}
 use Rattle.transfer.specs.Kept.{Keeps, OpensFor, ChangeFits, announce_good, change_fits, change_for}
+use Rattle.transfer.specs.declared.Transfer.{Transfer}
 
-module _ (x : State) (room : Bool) (k : Key) (pgn n last : ℕ) where
+module _ (x : Option Transfer) (room : Bool) (k : Key) (pgn n last : ℕ) where
   pub announce_kept : Keeps x (announced_to x room k pgn n last).change
   announce_kept = (announce_good k last x room pgn n).0
 

@@ -1,12 +1,10 @@
 -- When a transfer is in bounds: 02, E2, "Sender's state in bounds", and what an announcement allows.
-use Rattle.std.specs.Prelude.{ℕ, ◌+◌, Bool, true, not, ◌&&◌, ◌||◌, eqb, leb}
+use Rattle.std.specs.Prelude.{ℕ, ◌+◌, Bool, true, not, ◌&&◌, ◌||◌, eqb, leb, None, Option, Some}
 use Rattle.frame.specs.Pgn.{pgn_ok}
 use Rattle.transport.specs.declared.Key.{Key}
 use Rattle.transfer.specs.declared.Offer.{Offer}
 use Rattle.transfer.specs.declared.Course.{Course}
 use Rattle.transfer.specs.declared.Transfer.{Transfer}
-use Rattle.transfer.specs.declared.State.{State}
-use Rattle.transfer.specs.declared.State.TheVariants.{Closed, Open}
 use Rattle.transfer.specs.Transfers.{offer_segments}
 
 -- the destination is neither 254 nor our own address, the session number at most 15; else 3
@@ -31,6 +29,6 @@ course_ok o c =
 abbrev pub transfer_ok : Transfer → Bool
 transfer_ok t = offer_ok t.offer && course_ok t.offer t.course
 
-abbrev pub state_ok : State → Bool
-state_ok Closed = true
-state_ok (Open t) = transfer_ok t
+abbrev pub state_ok : Option Transfer → Bool
+state_ok None = true
+state_ok (Some t) = transfer_ok t

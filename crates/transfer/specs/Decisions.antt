@@ -1,5 +1,5 @@
 -- What a call, a frame or a reading makes of one transfer, and what is answered: 02, E2. One that is not open is Closed.
-use Rattle.std.specs.Prelude.{ℕ, ◌+◌, ◌-◌, ◌<◌, Bool, true, false, cond, not, ◌&&◌, ◌||◌, eqb, ltb}
+use Rattle.std.specs.Prelude.{ℕ, ◌+◌, ◌-◌, ◌<◌, Bool, true, false, cond, not, ◌&&◌, ◌||◌, eqb, ltb, Err, None, Ok, Option, Result, Some}
 use Rattle.frame.specs.Pgn.{pgn_ok}
 use Rattle.frame.specs.declared.refusal.Refusal.{Refusal}
 use Rattle.frame.specs.declared.refusal.Refusal.TheVariants.{NotTaken, PgnForm, MessageLength, KeyOpen, TransfersFull, KeyNotOpen, GrantRange, Silence}
@@ -7,37 +7,33 @@ use Rattle.transport.specs.declared.Key.{Key}
 use Rattle.transport.specs.declared.cts.Cts.{Cts}
 use Rattle.transport.specs.declared.cts.CtsRead.{CtsRead}
 use Rattle.transport.specs.declared.eoma.Eoma.{Eoma}
-use Rattle.transport.specs.declared.response.ResponseRead.{ResponseRead}
 use Rattle.transport.specs.declared.response.ResponseRead.TheVariants as response
 use Rattle.transport.specs.Kinds.{is_rts}
 use Rattle.answer.specs.declared.Ending.{Ending}
-use Rattle.answer.specs.declared.End.{End}
-use Rattle.answer.specs.declared.End.TheVariants as end
 use Rattle.session.specs.Ends.{is_idle}
 use Rattle.transfer.specs.declared.Offer.{Offer}
 use Rattle.transfer.specs.declared.Course.{Course}
 use Rattle.transfer.specs.declared.Transfer.{Transfer}
-use Rattle.transfer.specs.declared.State.{State}
-use Rattle.transfer.specs.declared.State.TheVariants.{Closed, Open}
-use Rattle.transfer.specs.declared.Change.{Change}
-use Rattle.transfer.specs.declared.Change.TheVariants.{Stays, Opens, Moves, Ends}
+use Rattle.session.specs.declared.Change.{Change}
+use Rattle.session.specs.declared.Change.TheVariants.{Stays, Opens, Moves, Ends}
 use Rattle.transfer.specs.declared.Reply.{Reply}
 use Rattle.transfer.specs.declared.Reply.TheVariants as reply
 use Rattle.transfer.specs.declared.Step.{Step}
 use Rattle.transfer.specs.Transfers.{offer_kind, offer_segments, transfer_of}
 use Rattle.transfer.specs.Bounds.{destination_ok, length_ok}
+use Rattle.transport.specs.declared.response.ResponseRead.{ResponseRead}
 
 -- ---- what is known of a key after a change
 
-abbrev pub moved : State → Course → State
-moved Closed c = Closed
-moved (Open t) c = Open (record { offer = t.offer; course = c })
+abbrev pub moved : Option Transfer → Course → Option Transfer
+moved None c = None
+moved (Some t) c = Some (record { offer = t.offer; course = c })
 
-abbrev pub after : State → Change → State
+abbrev pub after : Option Transfer → Change Transfer Course → Option Transfer
 after x Stays = x
-after x (Opens t) = Open t
+after x (Opens t) = Some t
 after x (Moves c) = moved x c
-after x Ends = Closed
+after x Ends = None
 
 -- ---- steps
 
@@ -60,15 +56,15 @@ ended o n = ends (reply.Ended (ending_of o n))
 
 -- ---- an announcement: 3, 8, 26, 14, 25; `room`: a transfer is free
 
-abbrev pub for_key : State → Bool → Offer → ℕ → Step
-for_key (Open t) room o last = refused KeyOpen
-for_key Closed room o last =
+abbrev pub for_key : Option Transfer → Bool → Offer → ℕ → Step
+for_key (Some t) room o last = refused KeyOpen
+for_key None room o last =
     cond (not room) (refused TransfersFull) (record { change = Opens (transfer_of o last); reply = reply.Announced o })
 
 abbrev pub offer_of : Key → ℕ → ℕ → Offer
 offer_of k pgn n = record { key = k; total = record { 0 = n }; pgn = pgn }
 
-unfoldable pub announced_to : State → Bool → Key → ℕ → ℕ → ℕ → Step
+unfoldable pub announced_to : Option Transfer → Bool → Key → ℕ → ℕ → ℕ → Step
 announced_to x room k pgn n last =
     cond (not (destination_ok k)) (refused NotTaken)
     (cond (not (pgn_ok pgn)) (refused PgnForm)
@@ -111,20 +107,20 @@ next_frame t last =
 
 -- ---- asked for it with a message of n bytes: 16, 26
 
-abbrev pub if_open : State → (Transfer → Step) → Step
-if_open Closed f = refused KeyNotOpen
-if_open (Open t) f = f t
+abbrev pub if_open : Option Transfer → (Transfer → Step) → Step
+if_open None f = refused KeyNotOpen
+if_open (Some t) f = f t
 
 abbrev pub asked_of : Transfer → ℕ → ℕ → Step
 asked_of t n last = cond (not (eqb t.offer.total.0 n)) (refused MessageLength) (next_frame t last)
 
-unfoldable pub asked_to : State → ℕ → ℕ → Step
+unfoldable pub asked_to : Option Transfer → ℕ → ℕ → Step
 asked_to x n last = if_open x (λ t. asked_of t n last)
 
 -- the number of the next segment is one of three bytes
-abbrev pub NextFits : State → Type 0
-NextFits Closed = Unit {0}
-NextFits (Open t) = t.course.next.0 < 16777216
+abbrev pub NextFits : Option Transfer → Type 0
+NextFits None = Unit {0}
+NextFits (Some t) = t.course.next.0 < 16777216
 
 -- ---- a CTS
 
@@ -175,26 +171,26 @@ eoma_open t f = cond (as_sent t f) (ends (reply.Acknowledged t.offer.key)) (refu
 
 -- ---- a responder's frame for what is known of its key; 16 where no transfer of its PGN is open
 
-abbrev pub of_pgn : State → ℕ → State
-of_pgn Closed pgn = Closed
-of_pgn (Open t) pgn = cond (eqb t.offer.pgn pgn) (Open t) Closed
+abbrev pub of_pgn : Option Transfer → ℕ → Option Transfer
+of_pgn None pgn = None
+of_pgn (Some t) pgn = cond (eqb t.offer.pgn pgn) (Some t) None
 
-abbrev pub cts_to : State → CtsRead → ℕ → Step
+abbrev pub cts_to : Option Transfer → CtsRead → ℕ → Step
 cts_to x f last = if_open x (λ t. cts_open t f last)
 
-abbrev pub eoma_to : State → Eoma → Step
+abbrev pub eoma_to : Option Transfer → Eoma → Step
 eoma_to x f = if_open x (λ t. eoma_open t f)
 
-abbrev pub abort_to : State → Step
+abbrev pub abort_to : Option Transfer → Step
 abort_to x = if_open x (λ t. ends (reply.Aborted t.offer.key))
 
-unfoldable pub hears : State → ResponseRead → ℕ → Step
-hears x (response.Cts f) last = cts_to (of_pgn x f.cts.pgn) f last
-hears x (response.Eoma f) last = eoma_to (of_pgn x f.pgn) f
-hears x (response.Abort f) last = abort_to (of_pgn x f.pgn)
-hears x (response.Refused n) last = refused n
+unfoldable pub hears : Option Transfer → Result ResponseRead Refusal → ℕ → Step
+hears x (Ok (response.Cts f)) last = cts_to (of_pgn x f.cts.pgn) f last
+hears x (Ok (response.Eoma f)) last = eoma_to (of_pgn x f.pgn) f
+hears x (Ok (response.Abort f)) last = abort_to (of_pgn x f.pgn)
+hears x (Err n) last = refused n
 
 -- ---- a reading: the transfer stays, or ends with 22
 
-abbrev pub end_at : ℕ → ℕ → Transfer → End
-end_at limit t x = cond (is_idle limit x.course.mark t) (end.Ended (ending_of x.offer Silence)) end.Stays
+abbrev pub end_at : ℕ → ℕ → Transfer → Option Ending
+end_at limit t x = cond (is_idle limit x.course.mark t) (Some (ending_of x.offer Silence)) None

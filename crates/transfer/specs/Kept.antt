@@ -1,5 +1,5 @@
 -- A transfer in bounds, as facts. Whatever is decided keeps it in bounds, and its numbers fit 32 bits.
-use Rattle.std.specs.Prelude.{ℕ, ◌+◌, ◌≤◌, ◌<◌, ◌≡◌, refl, Bool, false, cond, not, ◌&&◌, ◌||◌, List, [], ◌∷◌, leb, ltb}
+use Rattle.std.specs.Prelude.{ℕ, ◌+◌, ◌≤◌, ◌<◌, ◌≡◌, refl, Bool, false, cond, not, ◌&&◌, ◌||◌, List, [], ◌∷◌, leb, ltb, Err, None, Ok, Option, Result, Some}
 use Rattle.std.proofs.Common.{arith, ap, ltb-true, ltb-false, leb-true, eqb-true, le-leb, eq-eqb, ne_eqb}
 use Rattle.std.proofs.Math.Bool.{true}
 use Rattle.std.proofs.Math.Dec.{eqb}
@@ -12,22 +12,21 @@ use Rattle.transport.specs.declared.Kind.TheVariants.{Rts, Bam}
 use Rattle.transport.specs.declared.cts.Cts.{Cts}
 use Rattle.transport.specs.declared.cts.CtsRead.{CtsRead}
 use Rattle.transport.specs.declared.eoma.Eoma.{Eoma}
-use Rattle.transport.specs.declared.response.ResponseRead.{ResponseRead}
 use Rattle.transport.specs.declared.response.ResponseRead.TheVariants as response
 use Rattle.transport.specs.Kinds.{is_rts}
 use Rattle.transfer.specs.declared.Offer.{Offer}
 use Rattle.transfer.specs.declared.Course.{Course}
 use Rattle.transfer.specs.declared.Transfer.{Transfer}
-use Rattle.transfer.specs.declared.State.{State}
-use Rattle.transfer.specs.declared.State.TheVariants.{Closed, Open}
-use Rattle.transfer.specs.declared.Change.{Change}
-use Rattle.transfer.specs.declared.Change.TheVariants.{Stays, Opens, Moves, Ends}
+use Rattle.session.specs.declared.Change.{Change}
+use Rattle.session.specs.declared.Change.TheVariants.{Stays, Opens, Moves, Ends}
 use Rattle.transfer.specs.declared.Step.{Step}
 use Rattle.transfer.specs.Transfers.{segments_of, offer_kind, offer_segments, transfer_of}
 use Rattle.transfer.specs.Bounds.{destination_ok, length_ok, offer_ok, course_ok, transfer_ok, state_ok}
 use Rattle.transfer.specs.Decisions.{after, status_goes, NextFits, bad_grant, granted_by, stopped, after_segment, after_status}
 use Rattle.transfer.specs.Decisions.{for_key, offer_of, announced_to, next_frame, asked_to, cts_open, as_sent, eoma_open, of_pgn, cts_to, eoma_to, abort_to, hears}
 use Rattle.transfer.specs.Laws.{length_facts, grant_facts}
+use Rattle.frame.specs.declared.refusal.Refusal.{Refusal}
+use Rattle.transport.specs.declared.response.ResponseRead.{ResponseRead}
 
 -- ---- bounds as facts
 
@@ -142,29 +141,29 @@ next_70 t e =
     let h : t.course.next.0 ≤ t.course.granted.0 + 1 = (in_bounds_facts t e).course.high in
     omega arith
 
-pub next_fits : (x : State) → state_ok x ≡ true → NextFits x
-next_fits Closed e = tt
-next_fits (Open t) e = let n : t.course.next.0 ≤ 70 = next_70 t e in omega arith
+pub next_fits : (x : Option Transfer) → state_ok x ≡ true → NextFits x
+next_fits None e = tt
+next_fits (Some t) e = let n : t.course.next.0 ≤ 70 = next_70 t e in omega arith
 
 -- ---- what is said of a change
 
 -- a transfer in bounds stays so, and a closed one does not move
-abbrev pub Keeps : State → Change → Type 0
+abbrev pub Keeps : Option Transfer → Change Transfer Course → Type 0
 Keeps x Stays = Unit {0}
 Keeps x (Opens t) = transfer_ok t ≡ true
-Keeps Closed (Moves c) = ⊥
-Keeps (Open t) (Moves c) = transfer_ok (record { offer = t.offer; course = c }) ≡ true
+Keeps None (Moves c) = ⊥
+Keeps (Some t) (Moves c) = transfer_ok (record { offer = t.offer; course = c }) ≡ true
 Keeps x Ends = Unit {0}
 
-pub after_kept : (x : State) (c : Change) → state_ok x ≡ true → Keeps x c → state_ok (after x c) ≡ true
+pub after_kept : (x : Option Transfer) (c : Change Transfer Course) → state_ok x ≡ true → Keeps x c → state_ok (after x c) ≡ true
 after_kept x Stays e k = e
 after_kept x (Opens t) e k = k
-after_kept Closed (Moves c) e k = refl
-after_kept (Open t) (Moves c) e k = k
+after_kept None (Moves c) e k = refl
+after_kept (Some t) (Moves c) e k = k
 after_kept x Ends e k = refl
 
 -- what it opens is of the key
-abbrev pub OpensFor : Key → Change → Type 0
+abbrev pub OpensFor : Key → Change Transfer Course → Type 0
 OpensFor k Stays = Unit {0}
 OpensFor k (Opens t) = t.offer.key ≡ k
 OpensFor k (Moves c) = Unit {0}
@@ -181,16 +180,16 @@ pub record TransferFits (t : Transfer) : Type 0 where
   pub pgn : t.offer.pgn < 4294967296
   pub course : CourseFits t.course
 
-abbrev pub ChangeFits : Change → Type 0
+abbrev pub ChangeFits : Change Transfer Course → Type 0
 ChangeFits Stays = Unit {0}
 ChangeFits (Opens t) = TransferFits t
 ChangeFits (Moves c) = CourseFits c
 ChangeFits Ends = Unit {0}
 
 -- a CTS grants segments to one destination: the transfer is no broadcast
-abbrev pub Directed : State → Type 0
-Directed Closed = Unit {0}
-Directed (Open t) = t.offer.key.da.0 ≡ 255 → ⊥
+abbrev pub Directed : Option Transfer → Type 0
+Directed None = Unit {0}
+Directed (Some t) = t.offer.key.da.0 ≡ 255 → ⊥
 
 -- ---- each course that a decision leads to
 
@@ -220,10 +219,10 @@ module _ (t : Transfer) (last : ℕ) (h : CourseIn t.offer t.course) where
   segment_in : t.course.next.0 ≤ t.course.granted.0 → CourseIn t.offer (after_segment t last)
   segment_in g = record { within = h.within; broadcast = h.broadcast; low = omega arith; high = omega arith }
 
-  stopped_in : (owed : Bool) → Directed (Open t) → CourseIn t.offer (stopped t.course owed last)
+  stopped_in : (owed : Bool) → Directed (Some t) → CourseIn t.offer (stopped t.course owed last)
   stopped_in owed d = record { within = omega arith; broadcast = λ b. absurd (d b); low = h.low; high = omega arith }
 
-granted_in : (t : Transfer) (f : Cts) (last : ℕ) → Directed (Open t) → (f.count ≡ 0 → ⊥) → bad_grant (offer_segments t.offer) f ≡ false
+granted_in : (t : Transfer) (f : Cts) (last : ℕ) → Directed (Some t) → (f.count ≡ 0 → ⊥) → bad_grant (offer_segments t.offer) f ≡ false
     → CourseIn t.offer (granted_by t.course f last)
 granted_in t f last d z e =
     let g = grant_facts (offer_segments t.offer) f e in
@@ -234,24 +233,24 @@ granted_in t f last d z e =
 -- ---- each decision, with the last reading, and a key for what it opens
 
 -- what opens is of the key, and what opens or moves is marked with the reading
-abbrev Marked : Key → ℕ → Change → Type 0
+abbrev Marked : Key → ℕ → Change Transfer Course → Type 0
 Marked k last Stays = Unit {0}
 Marked k last (Opens t) = (t.offer.key ≡ k) × (t.course.mark ≡ last)
 Marked k last (Moves c) = c.mark ≡ last
 Marked k last Ends = Unit {0}
 
 module _ (k : Key) (last : ℕ) where
-  abbrev Good : State → Step → Type 0
+  abbrev Good : Option Transfer → Step → Type 0
   Good x s = Keeps x s.change × Marked k last s.change
 
   -- an announcement
 
-  for_key_good : (x : State) (room : Bool) (pgn n : ℕ) → offer_ok (offer_of k pgn n) ≡ true → Good x (for_key x room (offer_of k pgn n) last)
-  for_key_good (Open t) room pgn n e = (tt, tt)
-  for_key_good Closed room pgn n e =
-      either_way (Good Closed) (not room) (λ r. (tt, tt)) (λ r. (opened_in_lem (offer_of k pgn n) last e, (refl, refl)))
+  for_key_good : (x : Option Transfer) (room : Bool) (pgn n : ℕ) → offer_ok (offer_of k pgn n) ≡ true → Good x (for_key x room (offer_of k pgn n) last)
+  for_key_good (Some t) room pgn n e = (tt, tt)
+  for_key_good None room pgn n e =
+      either_way (Good None) (not room) (λ r. (tt, tt)) (λ r. (opened_in_lem (offer_of k pgn n) last e, (refl, refl)))
 
-  pub announce_good : (x : State) (room : Bool) (pgn n : ℕ) → Good x (announced_to x room k pgn n last)
+  pub announce_good : (x : Option Transfer) (room : Bool) (pgn n : ℕ) → Good x (announced_to x room k pgn n last)
   unfolding announced_to offer_tests
   announce_good x room pgn n =
       either_way (Good x) (not (destination_ok k)) (λ e. (tt, tt)) (λ d.
@@ -267,59 +266,59 @@ module _ (k : Key) (last : ℕ) where
     goes c h =
         facts_in_bounds (record { offer = t.offer; course = c }) (record { offer = (in_bounds_facts t e).offer; course = h })
 
-    status_good : Good (Open t) (status_goes t last)
+    status_good : Good (Some t) (status_goes t last)
     status_good =
-        either_way (Good (Open t)) (is_rts (offer_kind t.offer))
+        either_way (Good (Some t)) (is_rts (offer_kind t.offer))
         (λ r. (goes (after_status t.course last) (status_in t last (in_bounds_facts t e).course), refl))
         (λ r. (tt, tt))
 
-    next_good : Good (Open t) (next_frame t last)
+    next_good : Good (Some t) (next_frame t last)
     unfolding next_frame
     next_good =
-        either_way (Good (Open t)) t.course.owed (λ o. status_good) (λ o.
-        either_way (Good (Open t)) (ltb t.course.granted.0 t.course.next.0) (λ g. (tt, tt)) (λ g.
+        either_way (Good (Some t)) t.course.owed (λ o. status_good) (λ o.
+        either_way (Good (Some t)) (ltb t.course.granted.0 t.course.next.0) (λ g. (tt, tt)) (λ g.
         (goes (after_segment t last) (segment_in t last (in_bounds_facts t e).course (ltb-false _ _ g)), refl)))
 
-    stops : (owed : Bool) → Directed (Open t) → transfer_ok (record { offer = t.offer; course = stopped t.course owed last }) ≡ true
+    stops : (owed : Bool) → Directed (Some t) → transfer_ok (record { offer = t.offer; course = stopped t.course owed last }) ≡ true
     stops owed d = goes (stopped t.course owed last) (stopped_in t last (in_bounds_facts t e).course owed d)
 
-    cts_good : (f : CtsRead) → Directed (Open t) → Good (Open t) (cts_open t f last)
+    cts_good : (f : CtsRead) → Directed (Some t) → Good (Some t) (cts_open t f last)
     unfolding cts_open
     cts_good f d =
-        either_way (Good (Open t)) (t.course.complete && eqb f.request 1) (λ r. (stops true d, refl)) (λ r.
-        either_way (Good (Open t)) (eqb f.cts.count 0) (λ z. (stops t.course.owed d, refl)) (λ z.
-        either_way (Good (Open t)) (bad_grant (offer_segments t.offer) f.cts) (λ b. (tt, tt)) (λ b.
+        either_way (Good (Some t)) (t.course.complete && eqb f.request 1) (λ r. (stops true d, refl)) (λ r.
+        either_way (Good (Some t)) (eqb f.cts.count 0) (λ z. (stops t.course.owed d, refl)) (λ z.
+        either_way (Good (Some t)) (bad_grant (offer_segments t.offer) f.cts) (λ b. (tt, tt)) (λ b.
         (goes (granted_by t.course f.cts last) (granted_in t f.cts last d (eqb-false _ _ z) b), refl))))
 
-    eoma_good : (f : Eoma) → Good (Open t) (eoma_open t f)
+    eoma_good : (f : Eoma) → Good (Some t) (eoma_open t f)
     unfolding eoma_open
-    eoma_good f = either_way (Good (Open t)) (as_sent t f) (λ a. (tt, tt)) (λ a. (tt, tt))
+    eoma_good f = either_way (Good (Some t)) (as_sent t f) (λ a. (tt, tt)) (λ a. (tt, tt))
 
     -- a frame finds the transfer by its PGN, or none
-    by_pgn : (pgn : ℕ) (to : State → Step) → Good (Open t) (to Closed) → Good (Open t) (to (Open t)) → Good (Open t) (to (of_pgn (Open t) pgn))
+    by_pgn : (pgn : ℕ) (to : Option Transfer → Step) → Good (Some t) (to None) → Good (Some t) (to (Some t)) → Good (Some t) (to (of_pgn (Some t) pgn))
     by_pgn pgn to p q =
-        either_way (λ (x : State). Good (Open t) (to x)) (eqb t.offer.pgn pgn) (λ e. q) (λ e. p)
+        either_way (λ (x : Option Transfer). Good (Some t) (to x)) (eqb t.offer.pgn pgn) (λ e. q) (λ e. p)
 
   -- the next frame
 
-  ask_good : (x : State) (n : ℕ) → state_ok x ≡ true → Good x (asked_to x n last)
+  ask_good : (x : Option Transfer) (n : ℕ) → state_ok x ≡ true → Good x (asked_to x n last)
   unfolding asked_to
-  ask_good Closed n e = (tt, tt)
-  ask_good (Open t) n e =
-      either_way (Good (Open t)) (not (eqb t.offer.total.0 n)) (λ m. (tt, tt)) (λ m. next_good t e)
+  ask_good None n e = (tt, tt)
+  ask_good (Some t) n e =
+      either_way (Good (Some t)) (not (eqb t.offer.total.0 n)) (λ m. (tt, tt)) (λ m. next_good t e)
 
   -- a responder's frame
 
-  hear_good : (x : State) (f : ResponseRead) → state_ok x ≡ true → Directed x → Good x (hears x f last)
+  hear_good : (x : Option Transfer) (f : Result ResponseRead Refusal) → state_ok x ≡ true → Directed x → Good x (hears x f last)
   unfolding hears
-  hear_good Closed (response.Cts f) e d = (tt, tt)
-  hear_good Closed (response.Eoma f) e d = (tt, tt)
-  hear_good Closed (response.Abort f) e d = (tt, tt)
-  hear_good (Open t) (response.Cts f) e d =
-      by_pgn t e f.cts.pgn (λ (x : State). cts_to x f last) (tt, tt) (cts_good t e f d)
-  hear_good (Open t) (response.Eoma f) e d = by_pgn t e f.pgn (λ (x : State). eoma_to x f) (tt, tt) (eoma_good t e f)
-  hear_good (Open t) (response.Abort f) e d = by_pgn t e f.pgn abort_to (tt, tt) (tt, tt)
-  hear_good x (response.Refused n) e d = (tt, tt)
+  hear_good None (Ok (response.Cts f)) e d = (tt, tt)
+  hear_good None (Ok (response.Eoma f)) e d = (tt, tt)
+  hear_good None (Ok (response.Abort f)) e d = (tt, tt)
+  hear_good (Some t) (Ok (response.Cts f)) e d =
+      by_pgn t e f.cts.pgn (λ (x : Option Transfer). cts_to x f last) (tt, tt) (cts_good t e f d)
+  hear_good (Some t) (Ok (response.Eoma f)) e d = by_pgn t e f.pgn (λ (x : Option Transfer). eoma_to x f) (tt, tt) (eoma_good t e f)
+  hear_good (Some t) (Ok (response.Abort f)) e d = by_pgn t e f.pgn abort_to (tt, tt) (tt, tt)
+  hear_good x (Err n) e d = (tt, tt)
 
 -- ---- what fits 32 bits
 
@@ -340,14 +339,14 @@ transfer_fits t e m =
       course = record { next = omega arith; granted = omega arith; mark = m };
     }
 
-pub change_fits : (k : Key) (last : ℕ) → last < 4294967296 → (x : State) (c : Change) → Keeps x c × Marked k last c → ChangeFits c
+pub change_fits : (k : Key) (last : ℕ) → last < 4294967296 → (x : Option Transfer) (c : Change Transfer Course) → Keeps x c × Marked k last c → ChangeFits c
 change_fits k last h x Stays g = tt
 change_fits k last h x (Opens t) (e, m) = transfer_fits t e (omega arith)
-change_fits k last h Closed (Moves c) (e, m) = absurd e
-change_fits k last h (Open t) (Moves c) (e, m) = (transfer_fits (record { offer = t.offer; course = c }) e (omega arith)).course
+change_fits k last h None (Moves c) (e, m) = absurd e
+change_fits k last h (Some t) (Moves c) (e, m) = (transfer_fits (record { offer = t.offer; course = c }) e (omega arith)).course
 change_fits k last h x Ends g = tt
 
-pub change_for : (k : Key) (last : ℕ) (x : State) (c : Change) → Keeps x c × Marked k last c → OpensFor k c
+pub change_for : (k : Key) (last : ℕ) (x : Option Transfer) (c : Change Transfer Course) → Keeps x c × Marked k last c → OpensFor k c
 change_for k last x Stays g = tt
 change_for k last x (Opens t) g = g.1.0
 change_for k last x (Moves c) g = tt
@@ -358,7 +357,7 @@ change_for k last x Ends g = tt
 some_key : Key
 some_key = record { sa = record { 0 = 0 }; da = record { 0 = 0 }; session = record { 0 = 0 } }
 
-module _ (x : State) (n last : ℕ) (ok : state_ok x ≡ true) where
+module _ (x : Option Transfer) (n last : ℕ) (ok : state_ok x ≡ true) where
   pub ask_kept : Keeps x (asked_to x n last).change
   ask_kept = (ask_good some_key last x n ok).0
 
@@ -369,7 +368,7 @@ module _ (x : State) (n last : ℕ) (ok : state_ok x ≡ true) where
   pub ask_opens_for : (k : Key) → OpensFor k (asked_to x n last).change
   ask_opens_for k = change_for k last x (asked_to x n last).change (ask_good k last x n ok)
 
-module _ (x : State) (f : ResponseRead) (last : ℕ) (ok : state_ok x ≡ true) (one : Directed x) where
+module _ (x : Option Transfer) (f : Result ResponseRead Refusal) (last : ℕ) (ok : state_ok x ≡ true) (one : Directed x) where
   pub hear_kept : Keeps x (hears x f last).change
   hear_kept = (hear_good some_key last x f ok one).0
 

@@ -1,6 +1,5 @@
 -- The frame that a reply sends, as identifier and bytes: 02, E2; docs/WIRE.md.
-use Rattle.std.specs.Prelude.{ℕ, ◌-◌, ◌*◌, cond, List, length, take, drop}
-use Rattle.std.proofs.Math.Option.{Option, none, some}
+use Rattle.std.specs.Prelude.{ℕ, ◌-◌, ◌*◌, cond, List, length, take, drop, None, Option, Some}
 use Rattle.transport.specs.declared.Key.{Key}
 use Rattle.transport.specs.declared.abort.Abort.{Abort}
 use Rattle.transport.specs.declared.abort.Role.TheVariants.{Originator}
@@ -38,16 +37,16 @@ abort_for e = record { key = e.key; reason = wire_reason e.refusal; pgn = e.pgn 
 
 -- a BAM that is silent ends without one, as a broadcast session does
 abbrev pub ending_wire : Ending → Option Wire
-ending_wire e = cond (is_rts e.kind) (some (to_responder e.key, abort_bytes Originator (abort_for e))) none
+ending_wire e = cond (is_rts e.kind) (Some (to_responder e.key, abort_bytes Originator (abort_for e))) None
 
 -- of a transfer of the key, whose message is m
 abbrev pub sends : Key → List ℕ → Reply → Option Wire
-sends k m (reply.Announced o) = some (offer_wire o)
-sends k m (reply.Segment n) = some (segment_wire k m n.0)
-sends k m (reply.Status o) = some (status_wire o)
-sends k m reply.NothingDue = none
-sends k m reply.Granted = none
-sends k m (reply.Acknowledged κ) = none
-sends k m (reply.Aborted κ) = none
+sends k m (reply.Announced o) = Some (offer_wire o)
+sends k m (reply.Segment n) = Some (segment_wire k m n.0)
+sends k m (reply.Status o) = Some (status_wire o)
+sends k m reply.NothingDue = None
+sends k m reply.Granted = None
+sends k m (reply.Acknowledged κ) = None
+sends k m (reply.Aborted κ) = None
 sends k m (reply.Ended e) = ending_wire e
-sends k m (reply.Refused n) = none
+sends k m (reply.Refused n) = None

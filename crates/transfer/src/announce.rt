@@ -5,32 +5,31 @@ ghost use Rattle.transfer.specs.Bounds.{destination_ok, length_ok};
 ghost use Rattle.transfer.specs.Decisions.{for_key, announced_to};
 
 use super::bounds::{destination_ok, length_ok};
-use super::{Change, Course, Offer, Reply, State, Step, Transfer, kind_of, segments};
+use super::{Course, Offer, Reply, Step, Transfer, kind_of, segments};
 use frame::refusal::Refusal;
 use frame::{ByteCount, SegmentNumber, pgn};
-use transport::{Key, is_rts};
+use session::Change;
+use transport::{Key, Kind};
 
 // An RTS waits for its first CTS; a BAM may send all.
 fn first_granted(o: Offer) -> u32
     ensures { result ≡ first_granted o }
 {
-    let kind = kind_of(o.key.da);
-    if is_rts(kind) {
-        return 0;
+    match kind_of(o.key.da) {
+        Kind::Rts => 0,
+        Kind::Bam => segments(o.total),
     }
-    segments(o.total)
 }
 
 // The transfer of an announcement that has just gone out.
-fn open_transfer(o: Offer, last: u32) -> Transfer
-    ensures { result ≡ transfer_of o last }
+fn open_transfer(offer: Offer, last: u32) -> Transfer
+    ensures { result ≡ transfer_of offer last }
 {
-    let granted = first_granted(o);
     Transfer {
-        offer: o,
+        offer,
         course: Course {
             next: SegmentNumber(1),
-            granted: SegmentNumber(granted),
+            granted: SegmentNumber(first_granted(offer)),
             complete: false,
             reported: false,
             owed: false,
@@ -40,56 +39,37 @@ fn open_transfer(o: Offer, last: u32) -> Transfer
 }
 
 // By what is open: 14, 25, else it goes out.
-fn for_key(x: State, room: bool, o: Offer, last: u32) -> Step
+fn for_key(x: Option<Transfer>, room: bool, o: Offer, last: u32) -> Step
     ensures { result ≡ for_key x room o last }
 {
     match x {
-        State::Open(_) => Step {
-            change: Change::Stays,
-            reply: Reply::Refused(Refusal::KeyOpen),
+        Some(_) => Step::refused(Refusal::KeyOpen),
+        None if !room => Step::refused(Refusal::TransfersFull),
+        None => Step {
+            change: Change::Opens(open_transfer(o, last)),
+            reply: Reply::Announced(o),
         },
-        State::Closed => {
-            if !room {
-                return Step {
-                    change: Change::Stays,
-                    reply: Reply::Refused(Refusal::TransfersFull),
-                };
-            }
-            let t = open_transfer(o, last);
-            Step {
-                change: Change::Opens(t),
-                reply: Reply::Announced(o),
-            }
-        }
     }
 }
 
 // A message of len bytes announced under the key: 3, 8, 26, then by what is open; room says whether a transfer is free.
-pub fn announce(x: State, room: bool, key: Key, pgn: u32, len: usize, last: u32) -> Step
+#[tactic(auto, unfolding(crate::specs::Decisions::announced_to))]
+pub fn announce(x: Option<Transfer>, room: bool, key: Key, pgn: u32, len: usize, last: u32) -> Step
     ensures { result ≡ announced_to x room key pgn len last }
 {
     if !destination_ok(key) {
-        return Step {
-            change: Change::Stays,
-            reply: Reply::Refused(Refusal::NotTaken),
-        };
+        return Step::refused(Refusal::NotTaken);
     }
     if !pgn::is_pgn(pgn) {
-        return Step {
-            change: Change::Stays,
-            reply: Reply::Refused(Refusal::PgnForm),
-        };
+        return Step::refused(Refusal::PgnForm);
     }
     if !length_ok(len) {
-        return Step {
-            change: Change::Stays,
-            reply: Reply::Refused(Refusal::MessageLength),
-        };
+        return Step::refused(Refusal::MessageLength);
     }
-    let o = Offer {
-        key: key,
+    let offer = Offer {
+        key,
         total: ByteCount(len as u32),
-        pgn: pgn,
+        pgn,
     };
-    for_key(x, room, o, last)
+    for_key(x, room, offer, last)
 }

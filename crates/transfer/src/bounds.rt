@@ -10,20 +10,20 @@ use transport::Key;
 pub fn destination_ok(key: Key) -> bool
     ensures { result ≡ destination_ok key }
 {
-    (key.da.0 != 254) & (key.da.0 != key.sa.0) & (key.session.0 <= 15)
+    key.da.0 != 254 && key.da != key.sa && key.session.0 <= 15
 }
 
 pub fn length_ok(len: usize) -> bool
     ensures { result ≡ length_ok len }
 {
-    (1 <= len) & (len <= 4096)
+    1 <= len && len <= 4096
 }
 
-// Destination, session number, PGN and length are as an announcement allows.
+// Length, destination, session number and PGN are as an announcement allows; the length first, which takes fewer instructions.
 fn offer_ok(o: Offer) -> bool
     ensures { result ≡ offer_ok o }
 {
-    destination_ok(o.key) & pgn::is_pgn(o.pgn) & length_ok(o.total.0 as usize)
+    length_ok(o.total.0 as usize) && destination_ok(o.key) && pgn::is_pgn(o.pgn)
 }
 
 // The last granted is at most the count, and the count in a BAM; the next is 1 to one more than the last granted.
@@ -31,19 +31,14 @@ fn course_ok(o: Offer, c: Course) -> bool
     ensures { result ≡ course_ok o c }
 {
     let count = segments(o.total);
-    (c.granted.0 <= count)
-        & ((o.key.da.0 != 255) | (c.granted.0 == count))
-        & (1 <= c.next.0)
-        & (c.next.0 as u64 <= c.granted.0 as u64 + 1)
+    c.granted.0 <= count
+        && (o.key.da.0 != 255 || c.granted.0 == count)
+        && 1 <= c.next.0
+        && u64::from(c.next.0) <= u64::from(c.granted.0) + 1
 }
 
 pub fn transfer_ok(t: Transfer) -> bool
     ensures { result ≡ transfer_ok t }
 {
-    let o = t.offer;
-    let c = t.course;
-    if !offer_ok(o) {
-        return false;
-    }
-    course_ok(o, c)
+    offer_ok(t.offer) && course_ok(t.offer, t.course)
 }

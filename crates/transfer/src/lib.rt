@@ -3,6 +3,7 @@
 #![tactic(auto)]
 
 ghost use Rattle.std.specs.Prelude.{◌≡◌, ◌<◌};
+ghost use Rattle.transfer.specs.Decisions.{refused};
 ghost use Rattle.transfer.specs.Transfers.{segments_of, kind_of, max_of, announcement_of, status_of};
 
 pub mod announce;
@@ -15,6 +16,7 @@ use answer::Ending;
 use frame::octet::low_byte;
 use frame::refusal::Refusal;
 use frame::{Address, ByteCount, SegmentNumber};
+use session::Change;
 use transport::announcement::Announcement;
 use transport::eoms::Status;
 use transport::{Key, Kind};
@@ -50,22 +52,6 @@ pub struct Transfer {
     pub course: Course,
 }
 
-// What is known of a destination and a session number: the transfer, if one is open.
-#[derive(Clone, Copy)]
-pub enum State {
-    Closed,
-    Open(Transfer),
-}
-
-// What becomes of the transfer.
-#[derive(Clone, Copy)]
-pub enum Change {
-    Stays,
-    Opens(Transfer),
-    Moves(Course),
-    Ends,
-}
-
 // What is answered, and with it what goes out.
 #[derive(Clone, Copy)]
 pub enum Reply {
@@ -87,28 +73,37 @@ pub enum Reply {
     Refused(Refusal),
 }
 
-// What becomes of the transfer, and what is answered.
+// What becomes of the transfer, and what is answered. A session's step is a struct of its own (session/src/lib.rt).
 #[derive(Clone, Copy)]
 pub struct Step {
-    pub change: Change,
+    pub change: Change<Transfer, Course>,
     pub reply: Reply,
 }
 
+impl Step {
+    pub fn refused(n: Refusal) -> Step
+        ensures { result ≡ refused n }
+    {
+        Step {
+            change: Change::Stays,
+            reply: Reply::Refused(n),
+        }
+    }
+}
+
 // The segments of so many bytes; in 64 bits, where no sum wraps.
+#[tactic(auto, unfolding(crate::specs::Transfers::segments_of))]
 pub fn segments(total: ByteCount) -> u32
     ensures { (result ≡ segments_of total.0) × (result < 71582790) }
 {
-    ((total.0 as u64 + 59) / 60) as u32
+    ((u64::from(total.0) + 59) / 60) as u32
 }
 
 // To 255 a message is broadcast.
 pub fn kind_of(da: Address) -> Kind
     ensures { result ≡ kind_of da }
 {
-    if da.0 == 255 {
-        return Kind::Bam;
-    }
-    Kind::Rts
+    if da.0 == 255 { Kind::Bam } else { Kind::Rts }
 }
 
 // The MAX SGMTS of an announcement: as many as there are (001, 6.6.3.1.5); reserved in a BAM.
@@ -125,15 +120,13 @@ fn max_of(kind: Kind, segments: u32) -> u8
 pub fn announcement_of(o: Offer) -> Announcement
     ensures { result ≡ announcement_of o }
 {
-    let total = o.total;
     let kind = kind_of(o.key.da);
-    let n = segments(total);
-    let max = max_of(kind, n);
+    let count = segments(o.total);
     Announcement {
-        kind: kind,
-        total: total,
-        segments: SegmentNumber(n),
-        max: max,
+        kind,
+        total: o.total,
+        segments: SegmentNumber(count),
+        max: max_of(kind, count),
         assurance: 0,
         pgn: o.pgn,
     }
@@ -143,11 +136,9 @@ pub fn announcement_of(o: Offer) -> Announcement
 pub fn status_of(o: Offer) -> Status
     ensures { result ≡ status_of o }
 {
-    let total = o.total;
-    let n = segments(total);
     Status {
-        total: total,
-        segments: SegmentNumber(n),
+        total: o.total,
+        segments: SegmentNumber(segments(o.total)),
         assurance: 0,
         pgn: o.pgn,
     }

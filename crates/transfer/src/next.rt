@@ -1,10 +1,11 @@
 // The next frame of a transfer (02, E2; 001, 6.6.2): an EOMS that is owed, else the next segment where it is granted.
 ghost use Rattle.std.specs.Prelude.{◌≡◌, ◌<◌};
-ghost use Rattle.transfer.specs.Decisions.{NextFits, after_segment, after_status, status_goes, next_frame, asked_of, asked_to};
+ghost use Rattle.transfer.specs.Decisions.{NextFits, after_segment, after_status, status_goes, next_frame, asked_to};
 
-use super::{Change, Course, Reply, State, Step, Transfer, kind_of, segments};
+use super::{Course, Reply, Step, Transfer, kind_of, segments};
 use frame::SegmentNumber;
 use frame::refusal::Refusal;
+use session::Change;
 use transport::Kind;
 
 // Once the next segment has gone out. An EOMS is owed where it spends a grant and the last one has gone out by then.
@@ -13,16 +14,13 @@ fn after_segment(t: Transfer, last: u32) -> Course
     ensures { result ≡ after_segment t last }
 {
     let c = t.course;
-    let n = c.next.0;
-    let granted = c.granted;
-    let complete = c.complete | (n == segments(t.offer.total));
+    let complete = c.complete || c.next.0 == segments(t.offer.total);
     Course {
-        next: SegmentNumber(n + 1),
-        granted: granted,
-        complete: complete,
-        reported: c.reported,
-        owed: (n == granted.0) & complete,
+        next: SegmentNumber(c.next.0 + 1),
+        complete,
+        owed: c.next == c.granted && complete,
         mark: last,
+        ..c
     }
 }
 
@@ -30,15 +28,11 @@ fn after_segment(t: Transfer, last: u32) -> Course
 fn after_status(c: Course, last: u32) -> Course
     ensures { result ≡ after_status c last }
 {
-    let next = c.next;
-    let granted = c.granted;
     Course {
-        next: next,
-        granted: granted,
-        complete: c.complete,
         reported: true,
         owed: false,
         mark: last,
+        ..c
     }
 }
 
@@ -46,21 +40,17 @@ fn after_status(c: Course, last: u32) -> Course
 fn status_goes(t: Transfer, last: u32) -> Step
     ensures { result ≡ status_goes t last }
 {
-    let o = t.offer;
-    let c = t.course;
-    match kind_of(o.key.da) {
-        Kind::Rts => Step {
-            change: Change::Moves(after_status(c, last)),
-            reply: Reply::Status(o),
+    Step {
+        change: match kind_of(t.offer.key.da) {
+            Kind::Rts => Change::Moves(after_status(t.course, last)),
+            Kind::Bam => Change::Ends,
         },
-        Kind::Bam => Step {
-            change: Change::Ends,
-            reply: Reply::Status(o),
-        },
+        reply: Reply::Status(t.offer),
     }
 }
 
 // What is due. A frame that goes out renews the mark; nothing due changes nothing.
+#[tactic(auto, unfolding(crate::specs::Decisions::next_frame))]
 fn next_frame(t: Transfer, last: u32) -> Step
     requires { t.course.next.0 < 16777216 }
     ensures { result ≡ next_frame t last }
@@ -74,37 +64,22 @@ fn next_frame(t: Transfer, last: u32) -> Step
             reply: Reply::NothingDue,
         };
     }
-    let n = t.course.next;
     Step {
         change: Change::Moves(after_segment(t, last)),
-        reply: Reply::Segment(n),
+        reply: Reply::Segment(t.course.next),
     }
 }
 
-// Asked with a message of len bytes: 26 unless that is the length announced.
-fn ask_open(t: Transfer, len: usize, last: u32) -> Step
-    requires { t.course.next.0 < 16777216 }
-    ensures { result ≡ asked_of t len last }
-{
-    if t.offer.total.0 as usize != len {
-        return Step {
-            change: Change::Stays,
-            reply: Reply::Refused(Refusal::MessageLength),
-        };
-    }
-    next_frame(t, last)
-}
-
-// Asked for the next frame of what is known of a key; 16 where no transfer is open.
-pub fn ask(x: State, len: usize, last: u32) -> Step
+// Asked for the next frame of what is known of a key, with a message of len bytes: 16 where no transfer is open, 26 unless len is the
+// length announced.
+#[tactic(auto, unfolding(crate::specs::Decisions::asked_to))]
+pub fn ask(x: Option<Transfer>, len: usize, last: u32) -> Step
     requires { NextFits x }
     ensures { result ≡ asked_to x len last }
 {
     match x {
-        State::Closed => Step {
-            change: Change::Stays,
-            reply: Reply::Refused(Refusal::KeyNotOpen),
-        },
-        State::Open(t) => ask_open(t, len, last),
+        Some(t) if t.offer.total.0 as usize == len => next_frame(t, last),
+        Some(_) => Step::refused(Refusal::MessageLength),
+        None => Step::refused(Refusal::KeyNotOpen),
     }
 }

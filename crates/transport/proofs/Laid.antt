@@ -7,7 +7,7 @@ use lib.ListN.{length, take, drop, replicate, length-append, length-drop, length
 use lib.Seq.{paste, length-take-le}
 use Rattle.laws.specs.Pastes.{paste_own, paste_next}
 use Rattle.frame.specs.Lengths.{frame_length}
-use Rattle.frame.proofs.LengthLaws.{frame_bounds, frame_gap}
+use Rattle.frame.proofs.LengthLaws.{frame_bounds}
 use Rattle.transport.specs.declared.Key.{Key}
 use Rattle.transport.specs.Heads.{laid_in}
 use Rattle.transport.specs.Segments.{front_of, filler, segment_bytes}
@@ -18,34 +18,24 @@ taken_of m zero x h = refl
 taken_of zero (suc n) x h = absurd (omega arith)
 taken_of (suc m) (suc n) x h = ap (λ (l : List ℕ). x ∷ l) (taken_of m n x (omega arith))
 
--- what fills a frame up, out of 16 such bytes
-pub filled : (out o : List ℕ) (need len : ℕ) → need ≤ 64 → len ≡ frame_length need → o ≡ paste out need (replicate 16 170) (len - need)
-    → o ≡ paste out need (filler need) (frame_length need - need)
-filled out o need len h l e =
-    let g = frame_gap need h in
-    let gap : ℕ = frame_length need - need in
-    e
-    ∙ ap (λ (x : ℕ). paste out need (replicate 16 170) (x - need)) l
-    ∙ ap (λ (x : List ℕ). take need out ++ x ++ drop (need + gap) out)
-    (taken_of 16 gap 170 (omega arith) ∙ sym (taken_of gap gap 170 (omega arith)))
-
 -- a frame that is full already
 pub full : (out : List ℕ) → length out ≡ 64 → out ≡ paste out 64 (filler 64) (frame_length 64 - 64)
 unfolding frame_length
 full out l = sym (paste_own out 64 0 (omega arith))
 
-module _ (out o₁ o₂ o₃ message : List ℕ) (k : Key) (n from due len : ℕ) where
+module _ (out o₁ o₂ o₃ message head : List ℕ) (k : Key) (n from due len : ℕ) where
   pub laid : due ≤ 60 → from + due ≤ length message → len ≡ frame_length (4 + due)
-      → o₁ ≡ paste out 0 (front_of k n) 4 → o₂ ≡ paste o₁ 4 (drop from message) due
+      → head ≡ front_of k n → o₁ ≡ paste out 0 head 4 → o₂ ≡ paste o₁ 4 (drop from message) due
       → o₃ ≡ paste o₂ (4 + due) (filler (4 + due)) (frame_length (4 + due) - (4 + due))
       → (len, o₃) ≡ laid_in (segment_bytes k n (take due (drop from message))) out
   unfolding segment_bytes
-  laid few inside l e₁ e₂ e₃ =
+  laid few inside l h e₁ e₂ e₃ =
       let b = frame_bounds (4 + due) (omega arith) in
       let d : List ℕ = take due (drop from message) in
       let w : length d ≡ due = length-take-le due (drop from message) (simp length-drop (omega arith)) in
       let gap : ℕ = frame_length (4 + due) - (4 + due) in
-      let f₁ : o₁ ≡ front_of k n ++ drop 4 out = e₁ ∙ paste_next out out [] (front_of k n) 0 4 refl refl in
+      let f₁ : o₁ ≡ front_of k n ++ drop 4 out =
+      e₁ ∙ ap (λ (x : List ℕ). paste out 0 x 4) h ∙ paste_next out out [] (front_of k n) 0 4 refl refl in
       let f₂ : o₂ ≡ (front_of k n ++ d) ++ drop (4 + due) out = e₂ ∙ paste_next out o₁ (front_of k n) (drop from message) 4 due refl f₁ in
       let p : length (front_of k n ++ d) ≡ 4 + due = omega arith in
       let f₃ : o₃ ≡ (front_of k n ++ d) ++ take gap (filler (4 + due)) ++ drop (4 + due + gap) out =

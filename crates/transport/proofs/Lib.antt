@@ -1,3 +1,2 @@
-mod Written
 mod Laid
 pub mod ReadBack

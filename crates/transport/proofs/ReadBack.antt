@@ -1,6 +1,6 @@
 -- What one end writes is what the other reads.
 use Prim.Native.Nat.{ℕ, ◌<◌}
-use Rattle.std.specs.Prelude.{◌≡◌, eqb}
+use Rattle.std.specs.Prelude.{◌≡◌, eqb, Ok, Result}
 use Rattle.std.proofs.Math.Path.{refl, sym, ap}
 use Rattle.std.proofs.Common.{◌∙◌, eq-eqb}
 use Rattle.std.proofs.Math.Bool.{not}
@@ -14,11 +14,12 @@ use Rattle.frame.specs.declared.identifier.Identifier.{Identifier}
 use Rattle.transport.specs.declared.Key.{Key}
 use Rattle.transport.specs.declared.response.Response.{Response}
 use Rattle.transport.specs.declared.response.Response.TheVariants.{Cts, Eoma, Abort}
-use Rattle.transport.specs.declared.response.ResponseRead.{ResponseRead}
 use Rattle.transport.specs.declared.response.ResponseRead.TheVariants as read
 use Rattle.transport.specs.Heads.{head, control_at, session_key_of, to_originator}
 use Rattle.transport.specs.Responses.{response_id, response_key, response_bytes, by_response, response_of}
 use Rattle.transport.specs.ReadBack.{low24_read_back, two_read_back, three_read_back, KeyFits, fields_to, id_read_back, session_back, control_back, Fits, read_of, reply_fields}
+use Rattle.frame.specs.declared.refusal.Refusal.{Refusal}
+use Rattle.transport.specs.declared.response.ResponseRead.{ResponseRead}
 
 module _ (k : Key) (fits : KeyFits k) (n : ℕ) (small : n < 16) (rest : List ℕ) where
   reply_key_back : session_key_of (route_of (fields_to 77 k.sa k.da)) (head n k ∷ rest) ≡ k
@@ -43,14 +44,14 @@ pub read_back : (f : Response) → Fits f
     × (identifier_of (response_id f) ≡ reply_fields (response_key f))
 unfolding response_bytes
 read_back (Cts f) (k, n, p) =
-    let made : ℕ → ℕ → ResponseRead =
-    λ (next pgn : ℕ). read.Cts (record { cts = record { key = f.key; next = record { 0 = next }; count = f.count; pgn = pgn }; request = 0 }) in
+    let made : ℕ → ℕ → Result ResponseRead Refusal =
+    λ (next pgn : ℕ). Ok (read.Cts (record { cts = record { key = f.key; next = record { 0 = next }; count = f.count; pgn = pgn }; request = 0 })) in
     (by_response_lem f.key k 1 (omega arith) _ refl ∙ two_read_back made f.next.0 f.pgn n p, reply_read_back f.key k)
 read_back (Eoma f) (k, n, s, p) =
-    let made : ℕ → ℕ → ℕ → ResponseRead =
-    λ (total segments pgn : ℕ). read.Eoma (record { key = f.key; total = record { 0 = total }; segments = record { 0 = segments }; pgn = pgn }) in
+    let made : ℕ → ℕ → ℕ → Result ResponseRead Refusal =
+    λ (total segments pgn : ℕ). Ok (read.Eoma (record { key = f.key; total = record { 0 = total }; segments = record { 0 = segments }; pgn = pgn })) in
     (by_response_lem f.key k 3 (omega arith) _ refl ∙ three_read_back made f.total.0 f.segments.0 f.pgn n s p, reply_read_back f.key k)
 read_back (Abort f) (k, p) =
-    let made : ℕ → ResponseRead =
-    λ (pgn : ℕ). read.Abort (record { key = f.key; reason = f.reason; pgn = pgn }) in
+    let made : ℕ → Result ResponseRead Refusal =
+    λ (pgn : ℕ). Ok (read.Abort (record { key = f.key; reason = f.reason; pgn = pgn })) in
     (by_response_lem f.key k 15 (omega arith) _ refl ∙ ap made (low24_read_back f.pgn p), reply_read_back f.key k)

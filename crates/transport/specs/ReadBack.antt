@@ -1,6 +1,6 @@
 -- What one end writes is what the other reads.
 use Prim.Native.Nat.{ℕ, ◌+◌, ◌-◌, ◌*◌, ◌/◌, ◌%◌, ◌≤◌, ◌<◌}
-use Rattle.std.specs.Prelude.{◌≡◌, eqb, ltb, take}
+use Rattle.std.specs.Prelude.{◌≡◌, eqb, ltb, take, Ok, Result}
 use Rattle.std.proofs.Math.Path.{refl, sym, ap}
 use Rattle.std.proofs.Common.{◌∙◌, eq-eqb, le-ltb}
 use Rattle.std.proofs.Math.Bool.{not}
@@ -24,12 +24,9 @@ use Rattle.transport.specs.declared.abort.Abort as abort
 use Rattle.transport.specs.declared.abort.Role.TheVariants.{Originator}
 use Rattle.transport.specs.declared.announcement.Announcement.{Announcement}
 use Rattle.transport.specs.declared.eoms.Status.{Status}
-use Rattle.transport.specs.declared.control.Control.{Control}
 use Rattle.transport.specs.declared.control.Control.TheVariants as control
-use Rattle.transport.specs.declared.segment.DataFrame.TheVariants as dataframe
 use Rattle.transport.specs.declared.response.Response.{Response}
 use Rattle.transport.specs.declared.response.Response.TheVariants.{Cts, Eoma, Abort}
-use Rattle.transport.specs.declared.response.ResponseRead.{ResponseRead}
 use Rattle.transport.specs.declared.response.ResponseRead.TheVariants as read
 use Rattle.transport.specs.Heads.{head, control_at, key_of, id_to}
 use Rattle.transport.specs.Announcements.{announcement_bytes}
@@ -37,6 +34,9 @@ use Rattle.transport.specs.Eoms.{status_bytes}
 use Rattle.transport.specs.Aborts.{abort_bytes}
 use Rattle.transport.specs.Segments.{data_at, data_frame_of, filler, segment_bytes}
 use Rattle.transport.specs.Control.{by_control, control_of}
+use Rattle.frame.specs.declared.refusal.Refusal.{Refusal}
+use Rattle.transport.specs.declared.control.Control.{Control}
+use Rattle.transport.specs.declared.response.ResponseRead.{ResponseRead}
 
 -- Three bytes hold a number below 2^24.
 abbrev pub Three : ℕ → Type 0
@@ -103,10 +103,10 @@ Fits (Eoma f) = KeyFits f.key × Three f.total.0 × Three f.segments.0 × Three 
 Fits (Abort f) = KeyFits f.key × Three f.pgn
 
 -- what an originator reads of it
-abbrev pub read_of : Response → ResponseRead
-read_of (Cts f) = read.Cts (record { cts = f; request = 0 })
-read_of (Eoma f) = read.Eoma f
-read_of (Abort f) = read.Abort f
+abbrev pub read_of : Response → Result ResponseRead Refusal
+read_of (Cts f) = Ok (read.Cts (record { cts = f; request = 0 }))
+read_of (Eoma f) = Ok (read.Eoma f)
+read_of (Abort f) = Ok (read.Abort f)
 
 abbrev pub reply_fields : Key → Identifier
 reply_fields k = fields_to 77 k.sa k.da
@@ -115,30 +115,30 @@ reply_fields k = fields_to 77 k.sa k.da
 
 module _ (k : Key) (fits : KeyFits k) where
   pub announcement_read_back : (a : Announcement) → Three a.total.0 → Three a.segments.0 → Three a.pgn
-      → control_of (announcement_bytes k a) ≡ control.Announce a
+      → control_of (announcement_bytes k a) ≡ Ok (control.Announce a)
   announcement_read_back a n s p = by_kind_lem a.kind
     where
       of : Kind → ℕ → ℕ → ℕ → Announcement
       of kind total segments pgn =
           record { kind = kind; total = record { 0 = total }; segments = record { 0 = segments }; max = a.max; assurance = a.assurance; pgn = pgn }
 
-      made : Kind → ℕ → ℕ → ℕ → Control
-      made kind total segments pgn = control.Announce (of kind total segments pgn)
+      made : Kind → ℕ → ℕ → ℕ → Result Control Refusal
+      made kind total segments pgn = Ok (control.Announce (of kind total segments pgn))
 
       by_kind_lem : (kind : Kind) → control_of (announcement_bytes k (of kind a.total.0 a.segments.0 a.pgn)) ≡ made kind a.total.0 a.segments.0 a.pgn
       by_kind_lem Rts = by_control_lem k fits 0 (omega arith) _ refl ∙ three_read_back (made Rts) a.total.0 a.segments.0 a.pgn n s p
       by_kind_lem Bam = by_control_lem k fits 4 (omega arith) _ refl ∙ three_read_back (made Bam) a.total.0 a.segments.0 a.pgn n s p
 
   pub status_read_back : (st : Status) → Three st.total.0 → Three st.segments.0 → Three st.pgn
-      → control_of (status_bytes k st) ≡ control.EndOfMessage st
+      → control_of (status_bytes k st) ≡ Ok (control.EndOfMessage st)
   status_read_back st n s p =
-      let made : ℕ → ℕ → ℕ → Control =
-      λ (total segments pgn : ℕ). control.EndOfMessage (record { total = record { 0 = total }; segments = record { 0 = segments }; assurance = st.assurance; pgn = pgn }) in
+      let made : ℕ → ℕ → ℕ → Result Control Refusal =
+      λ (total segments pgn : ℕ). Ok (control.EndOfMessage (record { total = record { 0 = total }; segments = record { 0 = segments }; assurance = st.assurance; pgn = pgn })) in
       by_control_lem k fits 2 (omega arith) _ refl ∙ three_read_back made st.total.0 st.segments.0 st.pgn n s p
 
-pub abort_read_back : (f : abort.Abort) → KeyFits f.key → Three f.pgn → control_of (abort_bytes Originator f) ≡ control.Abort f.pgn
+pub abort_read_back : (f : abort.Abort) → KeyFits f.key → Three f.pgn → control_of (abort_bytes Originator f) ≡ Ok (control.Abort f.pgn)
 abort_read_back f fits p =
-    by_control_lem f.key fits 15 (omega arith) _ refl ∙ ap control.Abort (low24_read_back f.pgn p)
+    by_control_lem f.key fits 15 (omega arith) _ refl ∙ ap (λ x. Ok (control.Abort x)) (low24_read_back f.pgn p)
 
 -- ---- a data frame: the receiver reads its number and its data, and whatever fills it up comes after
 
@@ -152,7 +152,7 @@ module _ (k : Key) (fits : KeyFits k) (n : ℕ) (fit : Three n) (d : List ℕ) (
       omega arith
 
   pub segment_read_back : data_frame_of (segment_bytes k n d)
-      ≡ dataframe.Segment (record { format = 0; number = record { 0 = n }; room = frame_length (4 + length d) - 4 })
+      ≡ Ok (record { format = 0; number = record { 0 = n }; room = frame_length (4 + length d) - 4 })
   unfolding data_frame_of segment_bytes
   segment_read_back =
       let b = frame_bounds (4 + length d) (omega arith) in
@@ -160,9 +160,9 @@ module _ (k : Key) (fits : KeyFits k) (n : ℕ) (fit : Three n) (d : List ℕ) (
       let format : (0 + 16 * k.session.0) % 256 % 16 ≡ 0 = omega arith in
       let long : length (segment_bytes k n d) ≡ frame_length (4 + length d) = segment_long in
       sym (else (ltb (length (segment_bytes k n d)) 5) _ _ _ (le-ltb (length (segment_bytes k n d)) 5 (omega arith)) refl)
-      ∙ ap (λ (x : ℕ). dataframe.Segment (record { format = x; number = record { 0 = three_bytes n }; room = length (segment_bytes k n d) - 4 })) format
-      ∙ ap (λ (x : ℕ). dataframe.Segment (record { format = 0; number = record { 0 = x }; room = length (segment_bytes k n d) - 4 })) (low24_read_back n fit)
-      ∙ ap (λ (x : ℕ). dataframe.Segment (record { format = 0; number = record { 0 = n }; room = x - 4 })) long
+      ∙ ap (λ (x : ℕ). Ok (record { format = x; number = record { 0 = three_bytes n }; room = length (segment_bytes k n d) - 4 })) format
+      ∙ ap (λ (x : ℕ). Ok (record { format = 0; number = record { 0 = x }; room = length (segment_bytes k n d) - 4 })) (low24_read_back n fit)
+      ∙ ap (λ (x : ℕ). Ok (record { format = 0; number = record { 0 = n }; room = x - 4 })) long
 
   pub data_read_back : take (length d) (data_at (segment_bytes k n d)) ≡ d
   unfolding segment_bytes

@@ -1,13 +1,12 @@
 -- Data frames: 01, "Transfer frames"; 001, Figures 37 and 38.
-use Rattle.std.specs.Prelude.{ℕ, ◌+◌, ◌-◌, ◌%◌, ◌≤◌, ◌<◌, cond, List, [], ◌∷◌, ◌++◌, ltb, length, get_or, drop, replicate}
+use Rattle.std.specs.Prelude.{ℕ, ◌+◌, ◌-◌, ◌%◌, ◌≤◌, ◌<◌, cond, List, [], ◌∷◌, ◌++◌, ltb, length, get_or, drop, replicate, Err, Ok, Result}
 use Rattle.frame.specs.Lengths.{frame_length}
 use Rattle.frame.specs.Octets.{low3, low24}
 use Rattle.frame.specs.declared.refusal.Refusal.TheVariants.{TransferLength}
 use Rattle.transport.specs.declared.Key.{Key}
 use Rattle.transport.specs.declared.segment.Segment.{Segment}
-use Rattle.transport.specs.declared.segment.DataFrame.{DataFrame}
-use Rattle.transport.specs.declared.segment.DataFrame.TheVariants as dataframe
 use Rattle.transport.specs.Heads.{head}
+use Rattle.frame.specs.declared.refusal.Refusal.{Refusal}
 
 -- byte 1: the format indicator in the low 4 bits (the session number above it is session_at of Heads)
 abbrev pub format_at : List ℕ → ℕ
@@ -24,13 +23,13 @@ data_at d = drop 4 d
 abbrev pub segment_at : List ℕ → Segment
 segment_at d = record { format = format_at d; number = record { 0 = number_at d }; room = length d - 4 }
 
-unfoldable pub data_frame_of : List ℕ → DataFrame
-data_frame_of d = cond (ltb (length d) 5) (dataframe.Refused TransferLength) (dataframe.Segment (segment_at d))
+unfoldable pub data_frame_of : List ℕ → Result Segment Refusal
+data_frame_of d = cond (ltb (length d) 5) (Err TransferLength) (Ok (segment_at d))
 
 -- the number is one of three bytes, and the data lies in the frame
-abbrev pub Fits : List ℕ → DataFrame → Type 0
-Fits d (dataframe.Segment sg) = (sg.number.0 < 16777216) × (4 + sg.room ≤ length d)
-Fits d (dataframe.Refused n) = Unit {0}
+abbrev pub Fits : List ℕ → Result Segment Refusal → Type 0
+Fits d (Ok sg) = (sg.number.0 < 16777216) × (4 + sg.room ≤ length d)
+Fits d (Err n) = Unit {0}
 
 -- ---- written: format indicator 0, the number, the data, then AA hex to the next length that CAN FD has (6.3.3.2)
 

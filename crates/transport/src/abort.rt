@@ -1,13 +1,13 @@
 // Abort: either end breaks the session off (001, Figure 35; the roles are Table 12's).
-ghost use Rattle.std.specs.Prelude.{◌≡◌, length};
+ghost use Rattle.std.specs.Prelude.{◌≡◌};
 ghost use Rattle.transport.specs.Aborts.{role_byte, role_at, abort_at, abort_bytes};
 
 use super::Key;
 use super::head::head_byte;
-use frame::octet::{low_byte, low24_at};
+use frame::octet::low24_at;
 
 // Who breaks off.
-#[derive(Clone, Copy)]
+#[derive(Clone, Copy, PartialEq, Eq)]
 pub enum Role {
     Originator,
     Responder,
@@ -21,19 +21,17 @@ pub struct Abort {
 }
 
 // The role's code: 0 is the originator's, 1 the responder's.
-pub fn role_in(frame: &[u8]) -> u8
-    requires { length frame.now ≡ 12 }
+pub fn role_in(frame: &[u8; 12]) -> u8
     ensures { result ≡ role_at frame.now }
 {
     frame[7] % 4
 }
 
-pub fn read_abort(key: Key, frame: &[u8]) -> Abort
-    requires { length frame.now ≡ 12 }
+pub fn read_abort(key: Key, frame: &[u8; 12]) -> Abort
     ensures { result ≡ abort_at key frame.now }
 {
     Abort {
-        key: key,
+        key,
         reason: frame[8],
         pgn: low24_at(frame, 9),
     }
@@ -51,6 +49,7 @@ fn role_byte(role: Role) -> u8
 pub fn abort_bytes(role: Role, f: Abort) -> [u8; 12]
     ensures { result ≡ abort_bytes role f }
 {
+    let pgn = f.pgn.to_le_bytes();
     [
         head_byte(15, f.key),
         255,
@@ -61,8 +60,8 @@ pub fn abort_bytes(role: Role, f: Abort) -> [u8; 12]
         255,
         role_byte(role),
         f.reason,
-        low_byte(f.pgn),
-        low_byte(f.pgn / 256),
-        low_byte(f.pgn / 65536),
+        pgn[0],
+        pgn[1],
+        pgn[2],
     ]
 }

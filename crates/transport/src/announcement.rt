@@ -1,10 +1,10 @@
 // RTS and BAM: a message is announced (001, Figures 31 and 36).
-ghost use Rattle.std.specs.Prelude.{◌≡◌, length};
+ghost use Rattle.std.specs.Prelude.{◌≡◌};
 ghost use Rattle.transport.specs.Announcements.{control_for, announcement_at, announcement_bytes};
 
 use super::head::head_byte;
 use super::{Key, Kind};
-use frame::octet::{low_byte, low24_at};
+use frame::octet::low24_at;
 use frame::{ByteCount, SegmentNumber};
 
 #[derive(Clone, Copy)]
@@ -18,12 +18,11 @@ pub struct Announcement {
     pub pgn: u32,
 }
 
-pub fn read_announcement(kind: Kind, bytes: &[u8]) -> Announcement
-    requires { length bytes.now ≡ 12 }
+pub fn read_announcement(kind: Kind, bytes: &[u8; 12]) -> Announcement
     ensures { result ≡ announcement_at kind bytes.now }
 {
     Announcement {
-        kind: kind,
+        kind,
         total: ByteCount(low24_at(bytes, 1)),
         segments: SegmentNumber(low24_at(bytes, 4)),
         max: bytes[7],
@@ -44,19 +43,21 @@ fn control_for(kind: Kind) -> u8
 pub fn announcement_bytes(key: Key, a: Announcement) -> [u8; 12]
     ensures { result ≡ announcement_bytes key a }
 {
-    let kind = a.kind;
+    let total = a.total.0.to_le_bytes();
+    let segments = a.segments.0.to_le_bytes();
+    let pgn = a.pgn.to_le_bytes();
     [
-        head_byte(control_for(kind), key),
-        low_byte(a.total.0),
-        low_byte(a.total.0 / 256),
-        low_byte(a.total.0 / 65536),
-        low_byte(a.segments.0),
-        low_byte(a.segments.0 / 256),
-        low_byte(a.segments.0 / 65536),
+        head_byte(control_for(a.kind), key),
+        total[0],
+        total[1],
+        total[2],
+        segments[0],
+        segments[1],
+        segments[2],
         a.max,
         a.assurance,
-        low_byte(a.pgn),
-        low_byte(a.pgn / 256),
-        low_byte(a.pgn / 65536),
+        pgn[0],
+        pgn[1],
+        pgn[2],
     ]
 }

@@ -1,11 +1,11 @@
 // CTS: the responder grants segments (001, Figure 32).
-ghost use Rattle.std.specs.Prelude.{◌≡◌, length};
+ghost use Rattle.std.specs.Prelude.{◌≡◌};
 ghost use Rattle.transport.specs.Cts.{cts_at, cts_bytes};
 
 use super::Key;
 use super::head::head_byte;
 use frame::SegmentNumber;
-use frame::octet::{low_byte, low24_at};
+use frame::octet::low24_at;
 
 // As we send it, with request code 0.
 #[derive(Clone, Copy)]
@@ -23,13 +23,12 @@ pub struct CtsRead {
     pub request: u8,
 }
 
-pub fn read_cts(key: Key, frame: &[u8]) -> CtsRead
-    requires { length frame.now ≡ 12 }
+pub fn read_cts(key: Key, frame: &[u8; 12]) -> CtsRead
     ensures { result ≡ cts_at key frame.now }
 {
     CtsRead {
         cts: Cts {
-            key: key,
+            key,
             next: SegmentNumber(low24_at(frame, 4)),
             count: frame[7],
             pgn: low24_at(frame, 9),
@@ -41,18 +40,20 @@ pub fn read_cts(key: Key, frame: &[u8]) -> CtsRead
 pub fn cts_bytes(f: Cts) -> [u8; 12]
     ensures { result ≡ cts_bytes f }
 {
+    let next = f.next.0.to_le_bytes();
+    let pgn = f.pgn.to_le_bytes();
     [
         head_byte(1, f.key),
         255,
         255,
         255,
-        low_byte(f.next.0),
-        low_byte(f.next.0 / 256),
-        low_byte(f.next.0 / 65536),
+        next[0],
+        next[1],
+        next[2],
         f.count,
         0,
-        low_byte(f.pgn),
-        low_byte(f.pgn / 256),
-        low_byte(f.pgn / 65536),
+        pgn[0],
+        pgn[1],
+        pgn[2],
     ]
 }

@@ -1,10 +1,10 @@
 // EOMA: the responder says that the message has come (001, Figure 34).
-ghost use Rattle.std.specs.Prelude.{◌≡◌, length};
+ghost use Rattle.std.specs.Prelude.{◌≡◌};
 ghost use Rattle.transport.specs.Eoma.{eoma_at, eoma_bytes};
 
 use super::Key;
 use super::head::head_byte;
-use frame::octet::{low_byte, low24_at};
+use frame::octet::low24_at;
 use frame::{ByteCount, SegmentNumber};
 
 #[derive(Clone, Copy)]
@@ -15,12 +15,11 @@ pub struct Eoma {
     pub pgn: u32,
 }
 
-pub fn read_eoma(key: Key, frame: &[u8]) -> Eoma
-    requires { length frame.now ≡ 12 }
+pub fn read_eoma(key: Key, frame: &[u8; 12]) -> Eoma
     ensures { result ≡ eoma_at key frame.now }
 {
     Eoma {
-        key: key,
+        key,
         total: ByteCount(low24_at(frame, 1)),
         segments: SegmentNumber(low24_at(frame, 4)),
         pgn: low24_at(frame, 9),
@@ -30,18 +29,21 @@ pub fn read_eoma(key: Key, frame: &[u8]) -> Eoma
 pub fn eoma_bytes(f: Eoma) -> [u8; 12]
     ensures { result ≡ eoma_bytes f }
 {
+    let total = f.total.0.to_le_bytes();
+    let segments = f.segments.0.to_le_bytes();
+    let pgn = f.pgn.to_le_bytes();
     [
         head_byte(3, f.key),
-        low_byte(f.total.0),
-        low_byte(f.total.0 / 256),
-        low_byte(f.total.0 / 65536),
-        low_byte(f.segments.0),
-        low_byte(f.segments.0 / 256),
-        low_byte(f.segments.0 / 65536),
+        total[0],
+        total[1],
+        total[2],
+        segments[0],
+        segments[1],
+        segments[2],
         255,
         255,
-        low_byte(f.pgn),
-        low_byte(f.pgn / 256),
-        low_byte(f.pgn / 65536),
+        pgn[0],
+        pgn[1],
+        pgn[2],
     ]
 }

@@ -1,10 +1,10 @@
 // EOMS: the originator says that all segments have gone out (001, Figure 33).
-ghost use Rattle.std.specs.Prelude.{◌≡◌, length};
+ghost use Rattle.std.specs.Prelude.{◌≡◌};
 ghost use Rattle.transport.specs.Eoms.{status_at, status_bytes};
 
 use super::Key;
 use super::head::head_byte;
-use frame::octet::{low_byte, low24_at};
+use frame::octet::low24_at;
 use frame::{ByteCount, SegmentNumber};
 
 #[derive(Clone, Copy)]
@@ -15,8 +15,7 @@ pub struct Status {
     pub pgn: u32,
 }
 
-pub fn read_status(bytes: &[u8]) -> Status
-    requires { length bytes.now ≡ 12 }
+pub fn read_status(bytes: &[u8; 12]) -> Status
     ensures { result ≡ status_at bytes.now }
 {
     Status {
@@ -30,18 +29,21 @@ pub fn read_status(bytes: &[u8]) -> Status
 pub fn status_bytes(key: Key, st: Status) -> [u8; 12]
     ensures { result ≡ status_bytes key st }
 {
+    let total = st.total.0.to_le_bytes();
+    let segments = st.segments.0.to_le_bytes();
+    let pgn = st.pgn.to_le_bytes();
     [
         head_byte(2, key),
-        low_byte(st.total.0),
-        low_byte(st.total.0 / 256),
-        low_byte(st.total.0 / 65536),
-        low_byte(st.segments.0),
-        low_byte(st.segments.0 / 256),
-        low_byte(st.segments.0 / 65536),
+        total[0],
+        total[1],
+        total[2],
+        segments[0],
+        segments[1],
+        segments[2],
         0,
         st.assurance,
-        low_byte(st.pgn),
-        low_byte(st.pgn / 256),
-        low_byte(st.pgn / 65536),
+        pgn[0],
+        pgn[1],
+        pgn[2],
     ]
 }

@@ -4,7 +4,6 @@ ghost use Rattle.transport.specs.Heads.{id_to, to_responder, data_id, to_origina
 
 use super::Key;
 use frame::judge::Route;
-use frame::octet::{low_byte, wide};
 use frame::{Address, SessionNumber};
 
 // Priority 7, both pages 0 and PF 77 or 78, at their places in an identifier.
@@ -12,10 +11,11 @@ const CONTROL: u32 = 0x1C4D0000;
 
 const DATA: u32 = 0x1C4E0000;
 
+#[tactic(auto, unfolding(crate::specs::Heads::id_to))]
 fn control_id(to: Address, from: Address) -> u32
     ensures { result ≡ id_to 77 to from }
 {
-    CONTROL + 256 * wide(to.0) + wide(from.0)
+    CONTROL + 256 * u32::from(to.0) + u32::from(from.0)
 }
 
 // The identifier of a control frame that the responder sends: from the session's DA to its SA.
@@ -33,31 +33,27 @@ pub fn to_responder(key: Key) -> u32
 }
 
 // The identifier of a data frame.
+#[tactic(auto, unfolding(crate::specs::Heads::id_to))]
 pub fn data_id(key: Key) -> u32
     ensures { result ≡ data_id key }
 {
-    DATA + 256 * wide(key.da.0) + wide(key.sa.0)
+    DATA + 256 * u32::from(key.da.0) + u32::from(key.sa.0)
 }
 
 // The first byte, 0 where there is none.
 fn first(bytes: &[u8]) -> u8
     ensures { result ≡ get_or bytes.now 0 0 }
 {
-    if bytes.len() == 0 {
-        return 0;
-    }
-    bytes[0]
+    bytes.first().copied().unwrap_or(0)
 }
 
 // The key of the session that an originator's frame names.
 pub fn key_of(route: Route, bytes: &[u8]) -> Key
     ensures { result ≡ key_of route bytes.now }
 {
-    let sa = route.sa;
-    let da = route.da;
     Key {
-        sa: sa,
-        da: da,
+        sa: route.sa,
+        da: route.da,
         session: SessionNumber(first(bytes) / 16 % 16),
     }
 }
@@ -66,9 +62,10 @@ pub fn key_of(route: Route, bytes: &[u8]) -> Key
 pub fn session_key(route: Route, bytes: &[u8]) -> Key
     ensures { result ≡ session_key_of route bytes.now }
 {
-    let sa = route.da;
-    let da = route.sa;
-    let back = Route { sa: sa, da: da };
+    let back = Route {
+        sa: route.da,
+        da: route.sa,
+    };
     key_of(back, bytes)
 }
 
@@ -76,5 +73,5 @@ pub fn session_key(route: Route, bytes: &[u8]) -> Key
 pub fn head_byte(control: u8, key: Key) -> u8
     ensures { result ≡ head control key }
 {
-    low_byte(wide(control) + 16 * wide(key.session.0))
+    ((u32::from(control) + 16 * u32::from(key.session.0)) % 256) as u8
 }

@@ -1,9 +1,6 @@
 // Transfer frames: FD.TP.CM and FD.TP.DT, read and written (01, "Transfer frames").
 #![tactic(auto)]
 
-ghost use Rattle.std.specs.Prelude.{◌≡◌};
-ghost use Rattle.transport.specs.Kinds.{is_rts};
-
 pub mod abort;
 pub mod announcement;
 pub mod control;
@@ -18,7 +15,7 @@ pub mod segment;
 use frame::{Address, SessionNumber};
 
 // What a session is found by.
-#[derive(Clone, Copy)]
+#[derive(Clone, Copy, PartialEq, Eq)]
 pub struct Key {
     pub sa: Address,
     pub da: Address,
@@ -26,17 +23,8 @@ pub struct Key {
 }
 
 // How a message is transferred.
-#[derive(Clone, Copy)]
+#[derive(Clone, Copy, PartialEq, Eq)]
 pub enum Kind {
     Rts,
     Bam,
-}
-
-pub fn is_rts(kind: Kind) -> bool
-    ensures { result ≡ is_rts kind }
-{
-    match kind {
-        Kind::Rts => true,
-        Kind::Bam => false,
-    }
 }

@@ -1,5 +1,5 @@
 // Control frames that a responder sends: a receiver writes them, and a sender takes them.
-ghost use Rattle.std.specs.Prelude.{◌≡◌, length};
+ghost use Rattle.std.specs.Prelude.{◌≡◌};
 ghost use Rattle.transport.specs.Responses.{response_id, response_bytes, abort_response_of, response_of};
 
 use super::abort::{Abort, Role, abort_bytes, role_in};
@@ -30,6 +30,7 @@ pub fn identifier(f: Response) -> u32
 }
 
 // The data of the frame.
+#[tactic(auto, unfolding(crate::specs::Responses::response_bytes))]
 pub fn bytes(f: Response) -> [u8; 12]
     ensures { result ≡ response_bytes f }
 {
@@ -45,33 +46,30 @@ pub enum ResponseRead {
     Cts(CtsRead),
     Eoma(Eoma),
     Abort(Abort),
-    // 9 for a frame not of 12 bytes, 10 for what no responder sends
-    Refused(Refusal),
 }
 
 // An Abort: the responder's, or refused.
-fn read_abort(key: Key, frame: &[u8]) -> ResponseRead
-    requires { length frame.now ≡ 12 }
+fn read_abort(key: Key, frame: &[u8; 12]) -> Result<ResponseRead, Refusal>
     ensures { result ≡ abort_response_of key frame.now }
 {
     if role_in(frame) == 1 {
-        return ResponseRead::Abort(abort::read_abort(key, frame));
+        return Ok(ResponseRead::Abort(abort::read_abort(key, frame)));
     }
-    ResponseRead::Refused(Refusal::NeitherTakes)
+    Err(Refusal::NeitherTakes)
 }
 
-// What a responder's frame says, for the one who sent the message.
-pub fn read_response(route: Route, frame: &[u8]) -> ResponseRead
+// What a responder's frame says, for the one who sent the message: 9 for a frame not of 12 bytes, 10 for what no responder sends. The controls
+// are the wire's own numbers.
+#[tactic(auto, unfolding(crate::specs::Responses::response_of))]
+pub fn read_response(route: Route, frame: &[u8]) -> Result<ResponseRead, Refusal>
     ensures { result ≡ response_of route frame.now }
 {
-    if frame.len() != 12 {
-        return ResponseRead::Refused(Refusal::TransferLength);
-    }
+    let frame = frame.as_array::<12>().ok_or(Refusal::TransferLength)?;
     let key = session_key(route, frame);
     match frame[0] % 16 {
-        1 => ResponseRead::Cts(read_cts(key, frame)),
-        3 => ResponseRead::Eoma(read_eoma(key, frame)),
+        1 => Ok(ResponseRead::Cts(read_cts(key, frame))),
+        3 => Ok(ResponseRead::Eoma(read_eoma(key, frame))),
         15 => read_abort(key, frame),
-        _ => ResponseRead::Refused(Refusal::NeitherTakes),
+        _ => Err(Refusal::NeitherTakes),
     }
 }

@@ -9,7 +9,7 @@ use super::Key;
 use super::head::head_byte;
 use frame::SegmentNumber;
 use frame::length::frame_length;
-use frame::octet::{low_byte, low24_at};
+use frame::octet::low24_at;
 use frame::refusal::Refusal;
 use octets::{copy, copy_sixty};
 
@@ -21,21 +21,15 @@ pub struct Segment {
     pub room: usize,
 }
 
-#[derive(Clone, Copy)]
-pub enum DataFrame {
-    Segment(Segment),
-    // 9 for a frame under 5 bytes
-    Refused(Refusal),
-}
-
-// What a data frame says. Its session number is read by head::key_of.
-pub fn read_segment(bytes: &[u8]) -> DataFrame
+// What a data frame says, 9 for one under 5 bytes. Its session number is read by head::key_of.
+#[tactic(auto, unfolding(crate::specs::Segments::data_frame_of))]
+pub fn read_segment(bytes: &[u8]) -> Result<Segment, Refusal>
     ensures { (result ≡ data_frame_of bytes.now) × Fits bytes.now result }
 {
     if bytes.len() < 5 {
-        return DataFrame::Refused(Refusal::TransferLength);
+        return Err(Refusal::TransferLength);
     }
-    DataFrame::Segment(Segment {
+    Ok(Segment {
         format: bytes[0] % 16,
         number: SegmentNumber(low24_at(bytes, 1)),
         room: bytes.len() - 4,
@@ -46,22 +40,18 @@ pub fn read_segment(bytes: &[u8]) -> DataFrame
 fn front(key: Key, n: SegmentNumber) -> [u8; 4]
     ensures { result ≡ front_of key n.0 }
 {
-    [
-        head_byte(0, key),
-        low_byte(n.0),
-        low_byte(n.0 / 256),
-        low_byte(n.0 / 65536),
-    ]
+    let number = n.0.to_le_bytes();
+    [head_byte(0, key), number[0], number[1], number[2]]
 }
 
 // Fills out up from need on, to the next length that CAN FD has: that length. AA hex is what 001 fills with (6.3.3.2).
+#[tactic(auto, using(frame::proofs::LengthLaws::frame_bounds))]
 fn fill(out: &mut [u8], need: usize) -> usize
     requires { (length out.old ≡ 64) × (need ≤ 64) }
     ensures { (result ≡ frame_length need) × (out.new ≡ paste out.old need (filler need) (frame_length need - need)) }
 {
     let len = frame_length(need);
-    let fillers = [170u8; 16];
-    copy(out, need, &fillers, 0, len - need);
+    out[need..len].fill(170);
     len
 }
 
@@ -84,7 +74,8 @@ pub fn write_segment(
     fill(out, 4 + due)
 }
 
-// Writes the data frame of segment n with 60 bytes of the message from its index from on, which fill it.
+// Writes the data frame of segment n with 60 bytes of the message from its index from on, which fill it. A function of its own: 60 bytes, a
+// number that the compiler knows, are copied in a few moves, and what fills a frame up is not looked for (docs/SPEED.md).
 pub fn write_whole(out: &mut [u8], key: Key, n: SegmentNumber, message: &[u8], from: usize) -> usize
     requires { (length out.old ≡ 64) × (from + 60 ≤ length message.now) }
     ensures { (result, out.new) ≡ laid_in (segment_bytes key n.0 (take 60 (drop from message.now))) out.old }

@@ -1,5 +1,5 @@
 -- What a caller reads out of the answer and the list: the groups of the frame, by index.
-use Rattle.std.specs.Prelude.{ℕ, zero, suc, ◌+◌, ◌*◌, ◌-◌, ◌≤◌, ◌<◌, Bool, eqb, get_or}
+use Rattle.std.specs.Prelude.{ℕ, zero, suc, ◌+◌, ◌*◌, ◌-◌, ◌≤◌, ◌<◌, Bool, eqb, get_or, Result, Ok, Err}
 use Rattle.std.proofs.Common.{arith, ◌∙◌, length-append, length-drop, get_or-append-add, get_or-drop, eqb-true, eq-eqb}
 use Rattle.std.proofs.Math.Path.{◌≡◌, refl, sym, ap, subst}
 use Rattle.std.proofs.Math.Bool.{true, false, cond, not}
@@ -13,8 +13,6 @@ use Rattle.frame.specs.declared.refusal.Refusal.{Refusal}
 use Rattle.frame.specs.declared.refusal.Refusal.TheVariants.{FrameLength, OutOfBounds}
 use Rattle.multi_pg.specs.declared.Group.{Group}
 use Rattle.multi_pg.specs.Groups.{GroupsRead, good, bad, groups_read, groups_in, groups_of}
-use Rattle.unpacking.specs.declared.Unpacked.{Unpacked}
-use Rattle.unpacking.specs.declared.Unpacked.TheVariants.{Groups, Refused}
 use Rattle.unpacking.specs.Unpacking.{row, rows, unpacked_by, unpacked}
 use Rattle.unpacking.specs.Count.{few}
 
@@ -67,41 +65,41 @@ module _ (d out : List ℕ) where
         long = length-append (rows gs) D ∙ simp length-drop (omega arith);
       }
 
-  never : (r : Refusal) (n : ℕ) (l : List ℕ) → ◌≡◌ {A = Unpacked × List ℕ} (Refused r, out) (Groups n, l) → ⊥
-  never r n l e = let q : Refused r ≡ Groups n = ap (λ (p : Unpacked × List ℕ). p.0) e in let z : ◌≡◌ {A = ℕ} 0 1 = cc in omega arith
+  never : (r : Refusal) (n : ℕ) (l : List ℕ) → ◌≡◌ {A = Result ℕ Refusal × List ℕ} (Err r, out) (Ok n, l) → ⊥
+  never r n l e = let q : ◌≡◌ {A = Result ℕ Refusal} (Err r) (Ok n) = ap (λ (p : Result ℕ Refusal × List ℕ). p.0) e in let z : ◌≡◌ {A = ℕ} 0 1 = cc in omega arith
 
   -- Whatever is lent: the answer is a count only where the groups of a good frame are in the list.
-  pub given : (n : ℕ) (l : List ℕ) → unpacked d out ≡ (Groups n, l) → Given d out l n
+  pub given : (n : ℕ) (l : List ℕ) → unpacked d out ≡ (Ok n, l) → Given d out l n
   unfolding unpacked
   given n l e = go (not (eqb (length out) 96)) refl (not (is_length (length d))) refl (groups_read d) refl e where
     go : (a : Bool) → not (eqb (length out) 96) ≡ a → (b : Bool) → not (is_length (length d)) ≡ b → (r : GroupsRead) → groups_read d ≡ r
-        → cond a (Refused OutOfBounds, out) (cond b (Refused FrameLength, out) (unpacked_by r out)) ≡ (Groups n, l) → Given d out l n
+        → cond a (Err OutOfBounds, out) (cond b (Err FrameLength, out) (unpacked_by r out)) ≡ (Ok n, l) → Given d out l n
     go true p b q r z e = absurd (never OutOfBounds n l e)
     go false p true q r z e = absurd (never FrameLength n l e)
     go false p false q (bad r) z e = absurd (never r n l e)
     go false p false q (good gs) z e =
-        let m : Groups (length gs) ≡ Groups n = ap (λ (p : Unpacked × List ℕ). p.0) e in
+        let m : ◌≡◌ {A = Result ℕ Refusal} (Ok (length gs)) (Ok n) = ap (λ (p : Result ℕ Refusal × List ℕ). p.0) e in
         let c : length gs ≡ n = cc in
-        let t : rows gs ++ drop (6 * length gs) out ≡ l = ap (λ (p : Unpacked × List ℕ). p.1) e in
+        let t : rows gs ++ drop (6 * length gs) out ≡ l = ap (λ (p : Result ℕ Refusal × List ℕ). p.1) e in
         subst (λ (x : List ℕ). Given d out x n) t
         (subst (λ (x : ℕ). Given d out (rows gs ++ drop (6 * length gs) out) x) c
         (given_by gs z (length_to (length d) (not-false _ q)) (eqb-true (length out) 96 (not-false _ p))))
 
   -- a refusal leaves the list as it was
-  pub refused : (r : Refusal) (l : List ℕ) → unpacked d out ≡ (Refused r, l) → l ≡ out
+  pub refused : (r : Refusal) (l : List ℕ) → unpacked d out ≡ (Err r, l) → l ≡ out
   unfolding unpacked
   refused r l e = go (not (eqb (length out) 96)) (not (is_length (length d))) (groups_read d) e where
-    go : (a b : Bool) (x : GroupsRead) → cond a (Refused OutOfBounds, out) (cond b (Refused FrameLength, out) (unpacked_by x out)) ≡ (Refused r, l) → l ≡ out
-    go true b x e = sym (ap (λ (p : Unpacked × List ℕ). p.1) e)
-    go false true x e = sym (ap (λ (p : Unpacked × List ℕ). p.1) e)
-    go false false (bad y) e = sym (ap (λ (p : Unpacked × List ℕ). p.1) e)
+    go : (a b : Bool) (x : GroupsRead) → cond a (Err OutOfBounds, out) (cond b (Err FrameLength, out) (unpacked_by x out)) ≡ (Err r, l) → l ≡ out
+    go true b x e = sym (ap (λ (p : Result ℕ Refusal × List ℕ). p.1) e)
+    go false true x e = sym (ap (λ (p : Result ℕ Refusal × List ℕ). p.1) e)
+    go false false (bad y) e = sym (ap (λ (p : Result ℕ Refusal × List ℕ). p.1) e)
     go false false (good gs) e =
-        let q : Groups (length gs) ≡ Refused r = ap (λ (p : Unpacked × List ℕ). p.0) e in absurd (let z : ◌≡◌ {A = ℕ} 0 1 = cc in omega arith)
+        let q : ◌≡◌ {A = Result ℕ Refusal} (Ok (length gs)) (Err r) = ap (λ (p : Result ℕ Refusal × List ℕ). p.0) e in absurd (let z : ◌≡◌ {A = ℕ} 0 1 = cc in omega arith)
 
   -- and a good frame of a CAN FD length is not refused
-  pub answered : length out ≡ 96 → is_length (length d) ≡ true → (gs : List Group) → groups_read d ≡ good gs → Groups (length gs) ≡ (unpacked d out).0
+  pub answered : length out ≡ 96 → is_length (length d) ≡ true → (gs : List Group) → groups_read d ≡ good gs → Ok (length gs) ≡ (unpacked d out).0
   unfolding unpacked
   answered h k gs e =
-      ap (λ (p : Unpacked × List ℕ). p.0)
+      ap (λ (p : Result ℕ Refusal × List ℕ). p.0)
       (else (not (eqb (length out) 96)) _ _ _ (ap not (eq-eqb (length out) 96 h))
       (else (not (is_length (length d))) _ _ _ (ap not k) (ap (λ (r : GroupsRead). unpacked_by r out) (sym e))))

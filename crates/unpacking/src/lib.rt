@@ -14,23 +14,17 @@ mod fill;
 mod place;
 mod row;
 
-#[derive(Clone, Copy)]
-pub enum Unpacked {
-    // how many; the first numbers of the list are theirs, six for each
-    Groups(usize),
-    Refused(Refusal),
-}
-
-// Writes the numbers of each group into a list of GROUPS_WORDS, which holds the groups of any CAN FD frame. The numbers after them, and on
-// a refusal all, stay as they were.
-pub fn unpack(frame: &[u8], out: &mut [u32]) -> Unpacked
+// Writes the numbers of each group into a list of GROUPS_WORDS, which holds the groups of any CAN FD frame, and answers how many groups
+// there are: the first numbers are theirs, six for each. The numbers after them, and on a refusal all, stay as they were.
+#[tactic(auto, using(frame::proofs::LengthLaws::length_to), unfolding(crate::specs::Unpacking::unpacked))]
+pub fn unpack(frame: &[u8], out: &mut [u32]) -> Result<usize, Refusal>
     ensures { (result, out.new) ≡ unpacked frame.now out.old }
 {
     if out.len() != GROUPS_WORDS {
-        return Unpacked::Refused(Refusal::OutOfBounds);
+        return Err(Refusal::OutOfBounds);
     }
     if !is_length(frame.len()) {
-        return Unpacked::Refused(Refusal::FrameLength);
+        return Err(Refusal::FrameLength);
     }
     if first_is_last(frame) {
         return first_only(frame, out);

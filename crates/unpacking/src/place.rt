@@ -2,8 +2,6 @@
 ghost use Rattle.std.specs.Prelude.{◌≡◌};
 ghost use Rattle.unpacking.specs.Places.{first_is_last};
 
-use frame::octet::wide;
-
 // Whether the place after a first group is an end, as it is in a frame of one group.
 pub fn first_is_last(frame: &[u8]) -> bool
     ensures { result ≡ first_is_last frame.now }
@@ -11,7 +9,7 @@ pub fn first_is_last(frame: &[u8]) -> bool
     if frame.len() < 4 {
         return true;
     }
-    let end = 4 + wide(frame[3]) as usize;
+    let end = 4 + usize::from(frame[3]);
     if frame.len() <= end {
         return true;
     }

@@ -9,43 +9,38 @@ use multi_pg::Group;
 // A group has six numbers, a CAN FD frame at most 16 groups.
 pub const GROUP_WORDS: usize = 6;
 
-pub const GROUPS_WORDS: usize = 96;
+pub const GROUPS_WORDS: usize = 16 * GROUP_WORDS;
 
-// The places of a group's numbers after its PGN.
-pub const SERVICE_AT: usize = 1;
-
-pub const FORMAT_AT: usize = 2;
-
-pub const START_AT: usize = 3;
-
-pub const LENGTH_AT: usize = 4;
-
-pub const TRAILER_AT: usize = 5;
-
-// Writes a group's numbers from the index i on.
-pub fn write(out: &mut [u32], i: usize, g: Group)
-    requires { (i + 6 ≤ length out.old) × (end_of g ≤ 64) }
-    ensures { out.new ≡ sets out.old i (row g) }
+fn row(group: Group) -> [u32; GROUP_WORDS]
+    requires { end_of group ≤ 64 }
+    ensures { result ≡ row group }
 {
-    out[i] = g.pgn;
-    out[i + SERVICE_AT] = g.service as u32;
-    out[i + FORMAT_AT] = g.format as u32;
-    out[i + START_AT] = g.start as u32;
-    out[i + LENGTH_AT] = g.len as u32;
-    out[i + TRAILER_AT] = g.trailer as u32;
+    [
+        group.pgn,
+        u32::from(group.service),
+        u32::from(group.format),
+        group.start as u32,
+        group.len as u32,
+        group.trailer as u32,
+    ]
 }
 
-// Keeps the six numbers that are there.
+// Writes a group's numbers from the index i on.
+pub fn write(out: &mut [u32], i: usize, group: Group)
+    requires { (i + 6 ≤ length out.old) × (end_of group ≤ 64) }
+    ensures { out.new ≡ sets out.old i (row group) }
+{
+    out[i..i + GROUP_WORDS].copy_from_slice(&row(group));
+}
+
+// Keeps the six numbers that are there, by way of an array: a copy from slice to slice would ask whether the two overlap, group by group.
 pub fn keep(out: &[u32], i: usize, kept: &mut [u32])
     requires { (i + 6 ≤ length out.now) × (i + 6 ≤ length kept.old) }
     ensures { kept.new ≡ sets kept.old i (take 6 (drop i out.now)) }
 {
-    kept[i] = out[i];
-    kept[i + 1] = out[i + 1];
-    kept[i + 2] = out[i + 2];
-    kept[i + 3] = out[i + 3];
-    kept[i + 4] = out[i + 4];
-    kept[i + 5] = out[i + 5];
+    let mut there = [0u32; GROUP_WORDS];
+    there.copy_from_slice(&out[i..i + GROUP_WORDS]);
+    kept[i..i + GROUP_WORDS].copy_from_slice(&there);
 }
 
 // Puts the first n numbers back.
@@ -53,9 +48,5 @@ pub fn put_back(out: &mut [u32], kept: &[u32], n: usize)
     requires { (n ≤ length out.old) × (n ≤ length kept.now) }
     ensures { out.new ≡ take n kept.now ++ drop n out.old }
 {
-    let mut j: usize = 0;
-    while j < n {
-        out[j] = kept[j];
-        j = j + 1;
-    }
+    out[..n].copy_from_slice(&kept[..n]);
 }

@@ -1,7 +1,6 @@
 // Transfers through the receiver's calls: Figures A1, A3 and A6, a slot full of old bytes, and nine senders. What is printed are the
 // program's lines.
-use super::show;
-use answer::place::{bytes_of, place_of};
+use answer::place::{bytes_of, cut, place_of};
 use engine::call::take_frame;
 use frame::Address;
 use frame::octet::low_byte;
@@ -10,7 +9,6 @@ use receiver::Receiver;
 use record_bytes::layout::write_record;
 use report::answer_lines::write_answer;
 use std::io;
-use text::Wrote;
 
 // What a transfer announces.
 #[derive(Clone, Copy)]
@@ -23,15 +21,10 @@ struct Transfer {
     pgn: u32,
 }
 
-fn print(rt: &impl Print, w: Wrote, lines: &[u8]) -> io::Result<()> {
-    match w {
-        Wrote::Written(n) => {
-            if n <= lines.len() {
-                show::text(rt, &lines[0..n])?;
-            }
-            Ok(())
-        }
-        Wrote::Short => show::text(rt, b"short\n"),
+fn print(rt: &impl Print, written: Option<usize>, lines: &[u8]) -> io::Result<()> {
+    match written {
+        Some(n) => rt.write_all(cut(lines, 0, n)),
+        None => println!(rt; "short"),
     }
 }
 
@@ -46,8 +39,8 @@ fn take(
     let answer = take_frame(receiver, id, bytes, store);
     let message = bytes_of(place_of(answer), bytes, store);
     let mut lines = [0u8; 20000];
-    let w = write_answer(&mut lines, 0, bytes, answer, message);
-    print(rt, w, &lines)
+    let written = write_answer(&mut lines, 0, bytes, answer, message);
+    print(rt, written, &lines)
 }
 
 // The bytes of an RTS, a BAM or an EOMS.
@@ -79,10 +72,10 @@ fn finish(rt: &impl Print, receiver: &mut [u8], t: Transfer, store: &mut [u8]) -
 }
 
 // Byte j of the data of segment n is 7 times the sender, 3 times n and j together, in one byte.
-fn fill(bytes: &mut [u8], sa: u8, n: u32) {
+fn fill(bytes: &mut [u8; 64], sa: u8, n: u32) {
     let mut value = sa as u32 % 256 * 7 + n % 256 * 3;
-    for j in 4..bytes.len() {
-        bytes[j] = low_byte(value);
+    for byte in &mut bytes[4..] {
+        *byte = low_byte(value);
         value = value % 256 + 1;
     }
 }
@@ -165,7 +158,7 @@ pub fn figures(rt: &impl Print, receiver: &mut [u8], store: &mut [u8]) -> io::Re
 
 fn sender(sa: u8) -> Transfer {
     Transfer {
-        sa: sa,
+        sa,
         session: 0,
         total: 61,
         segments: 2,

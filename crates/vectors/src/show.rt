@@ -1,16 +1,9 @@
-// Words and numbers on standard output.
+// What several lines have in common.
+use frame::refusal::{self, Refusal};
 use std::io;
 
-pub fn text(rt: &impl Print, s: &[u8]) -> io::Result<()> {
-    rt.write_all(s)
-}
-
-pub fn number(rt: &impl Print, n: u64) -> io::Result<()> {
-    print!(rt; " {n}")
-}
-
-pub fn end(rt: &impl Print) -> io::Result<()> {
-    rt.write_all(b"\n")
+pub fn refused(rt: &impl Print, r: Refusal) -> io::Result<()> {
+    print!(rt; " refused {}", refusal::number(r))
 }
 
 // Bytes in hexadecimal.

@@ -5,7 +5,6 @@ ghost use Rattle.std.specs.Prelude.{◌≡◌, [], ◌+◌, ◌<◌, ◌≤◌, 
 ghost use Rattle.std.proofs.Math.Seq.{paste};
 ghost use Rattle.words.specs.Words.{low4, low32};
 
-use frame::octet::{low_byte, wide};
 use octets::copy;
 
 // Four bytes of s from at on, as a number.
@@ -13,7 +12,7 @@ pub fn word_at(s: &[u8], at: usize) -> u32
     requires { at + 3 < length s.now }
     ensures { result ≡ low32 s.now at }
 {
-    wide(s[at]) + 256 * wide(s[at + 1]) + 65536 * wide(s[at + 2]) + 16777216 * wide(s[at + 3])
+    u32::from_le_bytes([s[at], s[at + 1], s[at + 2], s[at + 3]])
 }
 
 // Puts a number into four bytes of out, from at on.
@@ -21,11 +20,5 @@ pub fn put_word(out: &mut [u8], at: usize, n: u32)
     requires { at + 4 ≤ length out.old }
     ensures { out.new ≡ paste out.old at (low4 n []) 4 }
 {
-    let four = [
-        low_byte(n),
-        low_byte(n / 256),
-        low_byte(n / 65536),
-        low_byte(n / 16777216),
-    ];
-    copy(out, at, &four, 0, 4);
+    copy(out, at, &n.to_le_bytes(), 0, 4);
 }

@@ -1,13 +1,6 @@
-use mathlib.Core.Path.{sym, ◌∙◌}
-use Rattle.answer_bytes.specs.Places.{answer_length}
-use Rattle.dwaebinam.proofs.Answered.{no_room}
+use Rattle.std.proofs.Common.{sym, ◌∙◌}
 use Rattle.dwaebinam.proofs.Routed.{to_receiver, to_sender}
-use Rattle.dwaebinam.specs.Node.{node_framed_in}
 use Rattle.dwaebinam.proofs.both.dwb_node_frame.Goals as goal
-
-pub returns-then-answer-ne-ANSWER_BYTES : goal.returns-then-answer-ne-ANSWER_BYTES
-unfolding node_framed_in
-returns-then-answer-ne-ANSWER_BYTES c = no_room c.args.answer.now answer_length _ _ c.if-answer-ne-ANSWER_BYTES.true
 
 pub returns-then-is_senders : goal.returns-then-is_senders
 returns-then-is_senders c =

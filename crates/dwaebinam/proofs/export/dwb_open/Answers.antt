@@ -1,16 +1,9 @@
-use mathlib.Core.Path.{ap, ◌∙◌}
+use Rattle.std.proofs.Common.{ap, ◌∙◌}
 use Rattle.receiver.specs.declared.Opened.{Opened}
 use Rattle.answer.specs.Answers.{acceptance_number}
 use Rattle.receiver.specs.Bounds.{opened}
-use Rattle.dwaebinam.specs.Calls.{opened_in}
-use Rattle.dwaebinam.proofs.Answered.{no_room}
 use Rattle.dwaebinam.proofs.Exports.{opened_put}
-use Rattle.record_bytes.specs.Places.{record_length}
 use Rattle.dwaebinam.proofs.export.dwb_open.Goals as goal
-
-pub returns-then-buffer-ne-RECORD_BYTES : goal.returns-then-buffer-ne-RECORD_BYTES
-unfolding opened_in
-returns-then-buffer-ne-RECORD_BYTES c = no_room c.args.buffer.now record_length _ _ c.if-buffer-ne-RECORD_BYTES.true
 
 pub returns : goal.returns
 unfolding opened

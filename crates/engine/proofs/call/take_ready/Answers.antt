@@ -1,4 +1,5 @@
-use mathlib.Core.Path.{refl, sym}
+use mathlib.Core.Path.{refl, sym, ap, ◌∙◌}
+use Rattle.std.specs.Prelude.{Ok}
 use mathlib.Core.Bool.{true}
 use native.Mathlib.Omega.{arith}
 use Rattle.multi_pg.specs.Groups.{groups_read}
@@ -6,22 +7,13 @@ use Rattle.engine.proofs.Writes.{seen_put}
 use Rattle.engine.proofs.Frames.{is_ready_lem, holds, by_verdict_lem, by_groups, seen_same}
 use Rattle.engine.proofs.call.take_ready.Goals as goal
 
-pub own_of-own-requires : goal.own_of-own-requires
-own_of-own-requires c = let a = c.args in
-    let b = a.buffer.now in
-    let d = a.bytes.now in
-    let m = a.store.now in
-    let e = sym c.requires in
-    let l = (is_ready_lem b a.id d m true e refl).long in
-    omega (arith, l)
-
 pub control-requires : goal.control-requires
 control-requires c = let a = c.args in
     let b = a.buffer.now in
     let d = a.bytes.now in
     let m = a.store.now in
     let e = sym c.requires in
-    ((is_ready_lem b a.id d m true e refl).long, holds b a.id d m true e refl c.own_of-own.ensures.1)
+    holds b a.id d m true e refl c.own_of-own.ensures.1
 
 pub data_frame-requires : goal.data_frame-requires
 data_frame-requires c = let a = c.args in
@@ -30,40 +22,40 @@ data_frame-requires c = let a = c.args in
     let m = a.store.now in
     let e = sym c.requires in
     let r = is_ready_lem b a.id d m true e refl in
-    (r.bounds, r.store, r.long, holds b a.id d m true e refl c.own_of-own.ensures.1)
+    (r.bounds, r.store, holds b a.id d m true e refl c.own_of-own.ensures.1)
 
-pub returns-in-MultiPg : goal.returns-in-MultiPg
-returns-in-MultiPg c = let a = c.args in
+pub returns-in-Ok-MultiPg : goal.returns-in-Ok-MultiPg
+returns-in-Ok-MultiPg c = let a = c.args in
     let b = a.buffer.now in
     let d = a.bytes.now in
     let m = a.store.now in
     let e = sym c.requires in
-    by_verdict_lem b a.id d m true e refl c.own_of-own.result _ _ _ c.own_of-own.ensures.0 c.judge.ensures c.in-MultiPg.is
+    by_verdict_lem b a.id d m true e refl c.own_of-own.result _ _ _ c.own_of-own.ensures.0 c.judge.ensures (c.in-Ok-MultiPg.is ∙ ap Ok c.in-Ok-MultiPg.field-0-is)
     (by_groups b m (holds b a.id d m true e refl c.own_of-own.ensures.1) _ (groups_read d) _ c.groups.ensures)
 
-pub returns-in-Control : goal.returns-in-Control
-returns-in-Control c = let a = c.args in
+pub returns-in-Ok-Control : goal.returns-in-Ok-Control
+returns-in-Ok-Control c = let a = c.args in
     let b = a.buffer.now in
     let d = a.bytes.now in
     let m = a.store.now in
     let e = sym c.requires in
-    by_verdict_lem b a.id d m true e refl c.own_of-own.result _ _ _ c.own_of-own.ensures.0 c.judge.ensures c.in-Control.is
+    by_verdict_lem b a.id d m true e refl c.own_of-own.result _ _ _ c.own_of-own.ensures.0 c.judge.ensures (c.in-Ok-Control.is ∙ ap Ok c.in-Ok-Control.field-0-is)
     (seen_put _ _ _ _ _ c.control.ensures refl)
 
-pub returns-in-Data : goal.returns-in-Data
-returns-in-Data c = let a = c.args in
+pub returns-in-Ok-Data : goal.returns-in-Ok-Data
+returns-in-Ok-Data c = let a = c.args in
     let b = a.buffer.now in
     let d = a.bytes.now in
     let m = a.store.now in
     let e = sym c.requires in
-    by_verdict_lem b a.id d m true e refl c.own_of-own.result _ _ _ c.own_of-own.ensures.0 c.judge.ensures c.in-Data.is
+    by_verdict_lem b a.id d m true e refl c.own_of-own.result _ _ _ c.own_of-own.ensures.0 c.judge.ensures (c.in-Ok-Data.is ∙ ap Ok c.in-Ok-Data.field-0-is)
     c.data_frame.ensures
 
-pub returns-in-Refused : goal.returns-in-Refused
-returns-in-Refused c = let a = c.args in
+pub returns-in-Err : goal.returns-in-Err
+returns-in-Err c = let a = c.args in
     let b = a.buffer.now in
     let d = a.bytes.now in
     let m = a.store.now in
     let e = sym c.requires in
-    by_verdict_lem b a.id d m true e refl c.own_of-own.result _ _ _ c.own_of-own.ensures.0 c.judge.ensures c.in-Refused.is
+    by_verdict_lem b a.id d m true e refl c.own_of-own.result _ _ _ c.own_of-own.ensures.0 c.judge.ensures c.in-Err.is
     (seen_same b m (holds b a.id d m true e refl c.own_of-own.ensures.1) _)

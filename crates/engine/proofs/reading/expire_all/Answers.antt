@@ -12,9 +12,8 @@ pub expire-requires : goal.expire-requires
 expire-requires c = let a = c.args in
     let l = c.loop-i in (
       search rules,
-      l.invariant.0,
       turn_good a.buffer.now a.limits a.t l.buffer l.i l.invariant.0 (omega arith) l.invariant.5
-          c.requires.1,
+          c.requires,
     )
 
 pub loop-i-preserved : goal.loop-i-preserved

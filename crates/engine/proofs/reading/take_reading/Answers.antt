@@ -1,41 +1,24 @@
-use native.Mathlib.Omega.{arith}
-use Rattle.engine.proofs.Elapses.{reading_refused, reading_ready, reading_holds, reading_kept_lem}
+use mathlib.Core.Path.{refl, sym, ap, ◌∙◌}
+use mathlib.Core.Bool.{false}
+use mathlib.Core.List.{List}
+use Prim.Native.Nat.{ℕ}
+use lib.ListN.{length, replicate}
+use Rattle.std.specs.Prelude.{Err}
+use Rattle.frame.specs.declared.refusal.Refusal.TheVariants.{OutOfBounds}
+use Rattle.receiver.specs.Calls.{stays}
+use Rattle.engine.specs.declared.reading.ReadingAnswer.{ReadingAnswer}
+use Rattle.lent_record.specs.Ready.{ready_in, not_long}
+use Rattle.engine.proofs.Elapses.{reading_refused}
 use Rattle.engine.proofs.reading.take_reading.Goals as goal
 
-pub returns-then-not-is_ready : goal.returns-then-not-is_ready
-returns-then-not-is_ready c = let a = c.args in
-    reading_refused a.buffer.now a.t a.store.now c.is_ready.result c.is_ready.ensures c.if-not-is_ready.true-raw
+pub returns-in-None : goal.returns-in-None
+returns-in-None c = let a = c.args in
+    reading_refused a.buffer.now a.t a.store.now false (sym (not_long a.buffer.now _ c.in-None.ensures.cases)) refl
 
-pub limits_of-limits-requires : goal.limits_of-limits-requires
-limits_of-limits-requires c = let a = c.args in
-    let l = (reading_ready a.buffer.now a.t a.store.now c.is_ready.result c.is_ready.ensures c.if-not-is_ready.false-raw).long
-    in
-    omega (arith, l)
-
-pub expire_all-ends-requires : goal.expire_all-ends-requires
-expire_all-ends-requires c = let a = c.args in (
-  (reading_ready a.buffer.now a.t a.store.now c.is_ready.result
-      c.is_ready.ensures c.if-not-is_ready.false-raw).long,
-  reading_holds a.buffer.now a.t
-      a.store.now c.is_ready.result c.is_ready.ensures
-      c.if-not-is_ready.false-raw (λ i. omega (arith, c.slice_known-1.given i)),
-)
-
-pub put_last-requires : goal.put_last-requires
-put_last-requires c = let a = c.args in
-    let l = (reading_ready a.buffer.now a.t a.store.now c.is_ready.result
-    c.is_ready.ensures c.if-not-is_ready.false-raw).long
-    in
-    omega (arith, l)
-
-pub returns : goal.returns
-returns c =
-    let a = c.args
-    in
-    reading_kept_lem a.buffer.now a.t a.store.now c.is_ready.result
-    c.is_ready.ensures c.if-not-is_ready.false-raw
-    (λ i. omega
-    (arith, c.slice_known-1.given i))
-    c.limits_of-limits.result c.expire_all-ends.result
-    c.expire_all-ends.new.buffer c.put_last.new.out c.limits_of-limits.ensures
-    c.expire_all-ends.ensures c.put_last.ensures
+pub returns-then-not-is_in_bounds : goal.returns-then-not-is_in_bounds
+returns-then-not-is_in_bounds c = let a = c.args in
+    let e = c.in-Some.ensures.cases.same in
+    let none : ReadingAnswer = record { answer = Err OutOfBounds; ends = replicate 8 stays } in
+    ap (λ (b : List ℕ). (none, b)) e
+    ∙ reading_refused a.buffer.now a.t a.store.now c.is_in_bounds.result
+    (c.is_in_bounds.ensures ∙ ap (λ (b : List ℕ). ready_in b (length a.store.now)) e) c.if-not-is_in_bounds.true-raw

@@ -1,11 +1,10 @@
+use Rattle.std.specs.Prelude.{Option, ℕ}
 use Prim.Native.Nat.{ℕ}
 use mathlib.Core.Path.{ap, ◌∙◌}
 use mathlib.Core.List.{List}
-use Rattle.session.specs.declared.State.{State}
 use Rattle.session.specs.declared.Step.{Step}
 use Rattle.session.specs.Decisions.{segment_to}
 use Rattle.session.specs.Steps.{segment_meets}
-use Rattle.slots.specs.declared.Found.{Found}
 use Rattle.slots.specs.Slots.{key_place}
 use Rattle.receiver.specs.declared.Receiver.{Receiver}
 use Rattle.record_bytes.specs.Layout.{record_at}
@@ -13,6 +12,7 @@ use Rattle.engine.specs.InBytes.{outcome_in}
 use Rattle.engine.proofs.Writes.{seen_put}
 use Rattle.engine.proofs.Steps.{same_stepped, same_stored, meets, placed_by, by_key}
 use Rattle.engine.proofs.segment.segment.Goals as goal
+use Rattle.session.specs.declared.Session.{Session}
 
 pub store_taken-requires : goal.store_taken-requires
 store_taken-requires c =
@@ -27,7 +27,6 @@ store_taken-requires c =
 pub apply-requires : goal.apply-requires
 apply-requires c = (
   c.requires.4,
-  c.requires.5,
   c.find_key-f.ensures.1,
   meets _ _ _ _ c.segment-step.ensures c.state_in-x.ensures (segment_meets _ _ _),
 )
@@ -37,9 +36,9 @@ returns c =
     let a = c.args in
     let b : List ℕ = a.buffer.now in
     let r : Receiver = record_at b in
-    let g : Found = key_place a.k r.slots in
+    let g : Option ℕ = key_place a.k r.slots in
     let x = c.state_in-x.result in
-    let ask : Found → State → Step = λ (h : Found) (y : State). segment_to y a.sg r.last in
+    let ask : Option ℕ → Option Session → Step = λ (h : Option ℕ) (y : Option Session). segment_to y a.sg r.last in
     let e = c.segment-step.ensures ∙ ap (segment_to x a.sg) c.word_at.ensures in
     let p = c.find_key-f.ensures.0 in
     let q = c.state_in-x.ensures in

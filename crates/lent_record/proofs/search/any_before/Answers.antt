@@ -13,7 +13,6 @@ use Rattle.transport.specs.declared.Key.{Key}
 use Rattle.slots.specs.Slots.{free_slot, holds_key}
 use Rattle.slots.specs.Bounds.{any_holds}
 use Rattle.record_bytes.specs.Layout.{slots_at}
-use Rattle.lent_record.specs.Held.{held}
 use Rattle.lent_record.specs.Judged.{slots_before}
 use borrow.Author.Rules.{rules}
 use Rattle.lent_record.proofs.search.any_before.Goals as goal
@@ -44,7 +43,7 @@ returns-then-holds_key c =
     let at = c.loop-j in
     let b = a.bytes.now in
     let l : at.j < a.i = omega (arith, c.if-j-i.false) in
-    one_before a.k b a.i at.j l (sym (c.holds_key.ensures ∙ held a.k b at.j _ (omega arith) refl) ∙ c.if-holds_key.true)
+    one_before a.k b a.i at.j l (sym c.holds_key.ensures ∙ c.if-holds_key.true)
 
 pub loop-j-preserved : goal.loop-j-preserved
 loop-j-preserved c =
@@ -54,7 +53,7 @@ loop-j-preserved c =
       search rules,
       omega (arith, c.if-j-i.false),
       search rules,
-      none_more a.k b at.j at.invariant.3 (sym (c.holds_key.ensures ∙ held a.k b at.j _ (omega arith) refl) ∙ c.if-holds_key.false),
+      none_more a.k b at.j at.invariant.3 (sym c.holds_key.ensures ∙ c.if-holds_key.false),
     )
 
 pub returns : goal.returns

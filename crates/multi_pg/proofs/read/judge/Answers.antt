@@ -1,30 +1,23 @@
-use Prim.Native.Nat.{ℕ, ◌-◌}
-use mathlib.Core.Path.{sym, ap, ◌∙◌}
-use native.Mathlib.Omega.{arith}
+use Rattle.std.proofs.Common.{rules, ◌≡◌, ℕ, sym, ap, ◌∙◌}
+use Rattle.std.specs.Prelude.{Ok, Err}
 use Rattle.multi_pg.specs.Groups.{judgement_of}
-use Rattle.multi_pg.specs.Places.{read_on, read_all, read_end, read_fault, step_room, judged_on}
+use Rattle.multi_pg.specs.Places.{read_on, read_all, read_end, read_fault, judged_on}
 use Rattle.multi_pg.proofs.read.judge.Goals as goal
 
-pub loop-g-init : goal.loop-g-init
-loop-g-init c = ap judgement_of (sym (read_all c.args.frame.now))
+pub loop-group-init : goal.loop-group-init
+loop-group-init c = ap judgement_of (sym (read_all c.args.frame.now))
 
-pub end_of-at-requires : goal.end_of-at-requires
-end_of-at-requires c =
-    omega (arith, step_room c.args.frame.now c.loop-g.at c.in-At.g (sym c.step.ensures ∙ c.in-At.is))
+pub returns-in_err-group : goal.returns-in_err-group
+returns-in_err-group c =
+    let e : c.from_residual.result ≡ Err c.in_err-group.field-0.0 = search rules in
+    e ∙ sym (ap judgement_of (read_fault c.args.frame.now c.loop-group.at _ (sym c.step.ensures ∙ c.in_err-group.was))) ∙ c.loop-group.invariant
 
-pub loop-g-smaller : goal.loop-g-smaller
-loop-g-smaller c =
-    omega (arith, step_room c.args.frame.now c.loop-g.at c.in-At.g (sym c.step.ensures ∙ c.in-At.is), c.end_of-at.ensures)
+pub loop-group-preserved : goal.loop-group-preserved
+loop-group-preserved c =
+    ap (λ (to : ℕ). judgement_of (read_on c.args.frame.now to)) c.end-at.ensures
+    ∙ sym (judged_on c.args.frame.now c.loop-group.at c.in-Some.group (sym c.step.ensures ∙ c.in_ok-group.was ∙ ap Ok c.in-Some.is))
+    ∙ c.loop-group.invariant
 
-pub loop-g-preserved : goal.loop-g-preserved
-loop-g-preserved c =
-    ap (λ (to : ℕ). judgement_of (read_on c.args.frame.now to)) c.end_of-at.ensures
-    ∙ sym (judged_on c.args.frame.now c.loop-g.at c.in-At.g (sym c.step.ensures ∙ c.in-At.is))
-    ∙ c.loop-g.invariant
-
-pub returns-in-End : goal.returns-in-End
-returns-in-End c = sym (ap judgement_of (read_end _ _ (sym c.step.ensures ∙ c.in-End.is))) ∙ c.loop-g.invariant
-
-pub returns-in-Fault : goal.returns-in-Fault
-returns-in-Fault c =
-    sym (ap judgement_of (read_fault _ _ _ (sym c.step.ensures ∙ c.in-Fault.is))) ∙ c.loop-g.invariant
+pub returns : goal.returns
+returns c =
+    sym (ap judgement_of (read_end c.args.frame.now c.loop-group.at (sym c.step.ensures ∙ c.in_ok-group.was ∙ ap Ok c.in_default.is))) ∙ c.loop-group.invariant

@@ -1,10 +1,9 @@
-use Prim.Native.Nat.{◌-◌}
-use lib.ListN.{length}
-use Rattle.report.proofs.Groups.{Counting}
+use Rattle.std.proofs.Common.{◌≡◌, length}
+use Rattle.reader.specs.Runs.{groups_left}
+use Rattle.text.specs.Line.{left_by}
+use Rattle.report.specs.Lines.{group_lines}
 use Rattle.report.proofs.group.left_after_groups.Given as goal
 
 abbrev pub invariant-loop-group : goal.invariant-loop-group
-invariant-loop-group l = Counting l.frame l.route l.room l.at l.left
-
-abbrev pub decreases-loop-group : goal.decreases-loop-group
-decreases-loop-group l = length l.frame - l.at
+invariant-loop-group l =
+    left_by l.left (length (group_lines l.route (groups_left l.group-iterator))) ≡ left_by l.room (length (group_lines l.route (groups_left l.groups)))

@@ -1,6 +1,5 @@
 use Rattle.text.specs.Walk.{walk_room, walk_on, walk_out}
 use Rattle.report.proofs.Ends.{slot_lines, none, no_ends, more_ends}
-use Prim.Native.Nat.{◌-◌}
 use native.Mathlib.Omega.{arith}
 use Rattle.text.specs.Put.{going_start}
 use Rattle.report.specs.Lines.{ends_lines}

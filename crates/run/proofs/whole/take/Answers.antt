@@ -1,12 +1,6 @@
 use mathlib.Core.Path.{refl, sym, ◌∙◌}
-use Rattle.run.proofs.Wholes.{few_records, last_fits, place_small, takes_of, by_long, by_short}
+use Rattle.run.proofs.Wholes.{last_fits, place_small, takes_of, by_short}
 use Rattle.run.proofs.whole.take.Goals as goal
-
-pub returns-then-is_long : goal.returns-then-is_long
-returns-then-is_long c = by_long _ _ _ _ _ _ _ _ (sym c.is_long.ensures ∙ c.if-is_long.true)
-
-pub take_records-went-requires : goal.take_records-went-requires
-take_records-went-requires c = few_records _ _ _ (sym c.is_long.ensures ∙ c.if-is_long.false)
 
 pub overflow_add-place : goal.overflow_add-place
 overflow_add-place c =

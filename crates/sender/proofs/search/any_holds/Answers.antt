@@ -1,42 +1,15 @@
-use Prim.Native.Nat.{◌-◌}
-use mathlib.Core.Path.{refl, sym, ◌∙◌}
-use native.Mathlib.Omega.{arith}
-use Rattle.laws.specs.Choice.{or_next, or_stop}
-use Rattle.laws.specs.Turn.{turn, end}
-use Rattle.transfer.specs.declared.State.TheVariants.{Closed}
+use Rattle.std.proofs.Common.{◌≡◌, ◌-◌, refl, arith, rules, get_or, true, false, None}
+use Rattle.std.proofs.lemmas.Iterator.{YieldsList-from_range, cases_from_any}
 use Rattle.sender_bytes.specs.Layout.{transfers_at}
 use Rattle.sender_bytes.specs.Changed.{four_transfers}
-use Rattle.sender.specs.Transfers.{any_holds}
-use borrow.Author.Rules.{rules}
+use Rattle.sender.specs.Transfers.{holds}
+use Rattle.sender.proofs.Searched.{any_found}
 use Rattle.sender.proofs.search.any_holds.Goals as goal
-
-pub loop-j-init : goal.loop-j-init
-loop-j-init c = (search rules, search rules, refl)
-
-pub returns-then-holds_key : goal.returns-then-holds_key
-returns-then-holds_key c =
-    let a = c.args in
-    let at = c.loop-j in
-    let b = a.bytes.now in
-    or_stop _ _ (sym c.holds_key.ensures ∙ c.if-holds_key.true)
-    ∙ sym (turn (any_holds a.k) (transfers_at b) at.j Closed (omega (arith, four_transfers b)))
-    ∙ at.invariant.2
-
-pub loop-j-preserved : goal.loop-j-preserved
-loop-j-preserved c =
-    let a = c.args in
-    let at = c.loop-j in
-    let b = a.bytes.now in (
-      search rules,
-      search rules,
-      or_next _ _ _ (sym c.holds_key.ensures ∙ c.if-holds_key.false) refl
-          ∙ sym (turn (any_holds a.k) (transfers_at b) at.j Closed (omega (arith, four_transfers b)))
-          ∙ at.invariant.2,
-    )
 
 pub returns : goal.returns
 returns c =
-    let a = c.args in
-    let at = c.loop-j in
-    let b = a.bytes.now in
-    sym (end (any_holds a.k) (transfers_at b) at.j (omega (arith, four_transfers b))) ∙ at.invariant.2
+    let ts = transfers_at c.args.bytes.now in
+    let k = c.args.k in
+    let from = c.args.from in
+    any_found k ts from (4 - from) (omega (arith, four_transfers c.args.bytes.now)) _
+    (cases_from_any _ _ _ (λ i. holds k (get_or ts i None) ≡ true) (λ i. holds k (get_or ts i None) ≡ false) c.any.ensures.ran (YieldsList-from_range from 4 (4 - from) refl refl) (λ x q k. search rules) (λ x q k. (search rules, search rules)))

@@ -1,8 +1,8 @@
+use Rattle.std.specs.Prelude.{Some}
 use Prim.Native.Nat.{ℕ, ◌+◌, ◌-◌}
 use native.Mathlib.Omega.{arith}
 use mathlib.Core.Path.{◌≡◌, ap, ◌∙◌}
 use lib.ListN.{take, drop}
-use Rattle.transfer.specs.declared.State.TheVariants.{Open}
 use Rattle.sender_bytes.specs.Places.{transfer_length}
 use Rattle.sender_bytes.specs.Layout.{own_at, transfer_at}
 use Rattle.sender.specs.Held.{opened}
@@ -14,8 +14,8 @@ returns c =
     let b = a.bytes.now in
     let at : ℕ = c.transfer_place-at.result in
     let e : at + transfer_length - at ≡ transfer_length = omega arith in
-    ap Open
+    ap Some
     (c.transfer_at.ensures
     ∙ ap (λ (n : ℕ). transfer_at (own_at b) (take n (drop at b))) e
     ∙ ap (λ (n : ℕ). transfer_at (own_at b) (take transfer_length (drop n b))) c.transfer_place-at.ensures)
-    ∙ opened b a.i c.requires.1 c.requires.2
+    ∙ opened b a.i c.requires.0 c.requires.1

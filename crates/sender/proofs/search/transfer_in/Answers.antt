@@ -16,4 +16,4 @@ returns c =
     c.state_at.ensures
     ∙ ap (λ (n : ℕ). state_at (own_at b) (take n (drop at b))) e
     ∙ ap (λ (n : ℕ). state_at (own_at b) (take transfer_length (drop n b))) c.transfer_place-at.ensures
-    ∙ sym (transfer_at_lem b a.i c.requires.1)
+    ∙ sym (transfer_at_lem b a.i c.requires)

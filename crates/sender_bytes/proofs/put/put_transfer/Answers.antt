@@ -12,5 +12,5 @@ returns c = let a = c.args in
     let d = a.out.now in
     let front = offer_bytes a.t.offer in
     next_field d (transfer_place a.i) front (course_place a.i) (course_bytes a.t.course)
-    (c.put_offer.ensures ∙ ap (λ (k : ℕ). paste d k front offer_length) c.transfer_place-at.ensures)
+    (c.put_offer.ensures ∙ ap (λ (k : ℕ). paste d k front offer_length) c.transfer_place.ensures)
     c.put_course.ensures (omega arith) (omega arith)

@@ -5,21 +5,13 @@ use native.Mathlib.Omega.{arith}
 use lib.ListN.{length-set}
 use lib.Seq.{paste-zero}
 use Rattle.trace.specs.Numbers.{number_bytes}
-use Rattle.trace.specs.NumberLaws.{next_left, next_held, next_low, last_left, all_left}
+use Rattle.trace.specs.NumberLaws.{next_left, next_held, last_left, all_left}
 use Rattle.trace.specs.Placing.{store_turn, stored, left_inside, left_next, left_last}
 use borrow.Author.Rules.{rules}
 use Rattle.trace.proofs.number.put.Goals as goal
 
 pub loop-rest-init : goal.loop-rest-init
 loop-rest-init c = (search rules, all_left c.args.n, refl, paste-zero c.args.out.now c.args.at (number_bytes c.args.n))
-
-pub overflow_add-out-in-loop-rest : goal.overflow_add-out-in-loop-rest
-overflow_add-out-in-loop-rest c = omega (
-  arith,
-  left_inside (number_bytes c.args.n) c.loop-rest.i
-      (next_left c.loop-rest.i c.loop-rest.rest (number_bytes c.args.n) c.loop-rest-test.true c.loop-rest.invariant.0
-      c.loop-rest.invariant.1),
-)
 
 pub bounds-out-at : goal.bounds-out-at
 bounds-out-at c = omega (
@@ -28,9 +20,6 @@ bounds-out-at c = omega (
       (next_left c.loop-rest.i c.loop-rest.rest (number_bytes c.args.n) c.loop-rest-test.true c.loop-rest.invariant.0
       c.loop-rest.invariant.1),
 )
-
-pub overflow_add-i : goal.overflow_add-i
-overflow_add-i c = omega (arith, next_low c.loop-rest.i c.loop-rest.rest [] c.loop-rest-test.true c.loop-rest.invariant.0)
 
 pub loop-rest-preserved : goal.loop-rest-preserved
 loop-rest-preserved c = (
@@ -77,9 +66,6 @@ overflow_add-result-2 c = omega (
       (last_left c.loop-rest.i c.loop-rest.rest (number_bytes c.args.n) c.loop-rest-test.false
       c.loop-rest.invariant.1),
 )
-
-pub shape_of-out : goal.shape_of-out
-shape_of-out c = simp length-set c.loop-rest.invariant.2
 
 pub returns : goal.returns
 returns c = let e = last_left c.loop-rest.i c.loop-rest.rest (number_bytes c.args.n) c.loop-rest-test.false

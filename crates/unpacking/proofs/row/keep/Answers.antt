@@ -1,33 +1,13 @@
-use Prim.Native.Nat.{◌+◌}
-use native.Mathlib.Omega.{arith}
-use mathlib.Core.Path.{sym, ap, ◌∙◌}
-use lib.ListN.{get_or, length-set}
-use lib.Seq.{sets}
-use Rattle.unpacking.specs.Rows.{six_sets, six_of}
+use Rattle.std.proofs.Common.{arith, ◌≡◌, ◌+◌, ◌-◌, length-drop, length-take-le, take, drop, ℕ, ap, ◌∙◌}
+use Rattle.unpacking.proofs.Rows.{six_put}
 use Rattle.unpacking.proofs.row.keep.Goals as goal
-
-pub bounds-kept-i-2 : goal.bounds-kept-i-2
-bounds-kept-i-2 c = simp length-set (omega arith)
-
-pub bounds-kept-i-3 : goal.bounds-kept-i-3
-bounds-kept-i-3 c = simp length-set (omega arith)
-
-pub bounds-kept-i-4 : goal.bounds-kept-i-4
-bounds-kept-i-4 c = simp length-set (omega arith)
-
-pub bounds-kept-i-5 : goal.bounds-kept-i-5
-bounds-kept-i-5 c = simp length-set (omega arith)
-
-pub bounds-kept-i-6 : goal.bounds-kept-i-6
-bounds-kept-i-6 c = simp length-set (omega arith)
-
-pub shape_of-kept : goal.shape_of-kept
-shape_of-kept c = simp length-set
 
 pub returns : goal.returns
 returns c =
     let o = c.args.out.now in
-    let k = c.args.kept.now in
     let i = c.args.i in
-    six_sets k i (get_or o i 0) (get_or o (i + 1) 0) (get_or o (i + 2) 0) (get_or o (i + 3) 0) (get_or o (i + 4) 0) (get_or o (i + 5) 0)
-    ∙ ap (sets k i) (sym (six_of o i c.requires.0))
+    let six : i + 6 - i ≡ 6 = omega arith in
+    let there = c.requires.0 in
+    six_put c.args.kept.now c.copy_from_slice-2.new.self (take 6 (drop i o)) i
+    (c.copy_from_slice-2.ensures.after ∙ c.copy_from_slice.ensures.after ∙ ap (λ (n : ℕ). take n (drop i o)) six)
+    (length-take-le 6 (drop i o) (simp length-drop (omega (arith, there)))) c.requires.1

@@ -1,4 +1,0 @@
-use Rattle.sender_bytes.proofs.layout.transfer_at.Goals as goal
-
-pub returns : goal.returns
-returns c = cc

@@ -1,4 +1,0 @@
-use Rattle.transfer.proofs.clock.ending_of.Goals as goal
-
-pub returns : goal.returns
-returns c = cc

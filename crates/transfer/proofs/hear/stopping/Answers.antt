@@ -1,4 +1,0 @@
-use Rattle.transfer.proofs.hear.stopping.Goals as goal
-
-pub returns : goal.returns
-returns c = cc
