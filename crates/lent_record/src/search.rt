@@ -51,11 +51,21 @@ pub fn any_before(bytes: &[u8; RECORD_BYTES], i: usize, k: Key) -> bool
     false
 }
 
-// The lowest free slot.
+// The lowest free slot. A loop that breaks with what it finds and no `find`: a form that is asked for here (docs/DECISIONS.md).
 pub fn find_free(bytes: &[u8; RECORD_BYTES]) -> Option<usize>
     ensures { (result ≡ first_free (slots_at bytes.now)) × Within result 8 }
 {
-    (0..SLOTS).find(|&i| is_free(bytes, i))
+    let mut i: usize = 0;
+    let found = loop {
+        if i == SLOTS {
+            break None;
+        }
+        if is_free(bytes, i) {
+            break Some(i);
+        }
+        i = i + 1;
+    };
+    found
 }
 
 // The slot that has the key open.
