@@ -94,14 +94,7 @@ pub fn dwb_sender_reading(buffer: &mut [u8], reading: u32, answers: &mut [u8]) -
     if answers.len() != TRANSFER_ANSWERS_BYTES {
         return refusal::number(Refusal::OutOfBounds);
     }
-    match take_reading(buffer, reading) {
-        Ok(ends) => {
-            write_ends(ends, answers);
-            0
-        }
-        Err(n) => {
-            write_ends([None; TRANSFERS], answers);
-            refusal::number(n)
-        }
-    }
+    let taken = take_reading(buffer, reading);
+    write_ends(taken.unwrap_or([None; TRANSFERS]), answers);
+    acceptance_number(taken.map(|_| ()))
 }

@@ -6,6 +6,7 @@ ghost use Rattle.std.proofs.Math.Seq.{paste};
 
 // Copies n bytes of src, from its index from on, into out from at on. A loop, since `copy_from_slice` calls memmove, and the archive calls
 // nothing but memcpy and memset.
+#[tactic(auto, using(crate::proofs::Turns::copied_turn))]
 pub fn copy(out: &mut [u8], at: usize, src: &[u8], from: usize, n: usize)
     requires { (at + n ≤ length out.old) × (from + n ≤ length src.now) }
     ensures { out.new ≡ paste out.old at (drop from src.now) n }

@@ -72,6 +72,10 @@ module _ {R : Type 0} (M : Receives R) (r : R) (m d : List ℕ) where
       (record_moved xs (d ++ []) at ∙ ap (λ (l : List ℕ). moved (length xs) (record_at l at)) (append-nil d))
       ∙ turn_moved xs [] at (record_at d at) (record_within d at)
 
+-- a turn is not cut and bad at once
+cut_or_bad : {R : Type 0} → ◌≡◌ {A = Turn R} cut bad → ⊥
+cut_or_bad e = absurd (let z : ◌≡◌ {A = ℕ} 0 1 = cc in omega arith)
+
 -- ---- a record that is taken ends after its place, and an open end is where the bytes end
 
 module _ {R : Type 0} (M : Receives R) (r : R) (m d : List ℕ) (at : ℕ) where
@@ -85,6 +89,15 @@ module _ {R : Type 0} (M : Receives R) (r : R) (m d : List ℕ) (at : ℕ) where
   pub turn_within : {x : Done R} {next : ℕ} → turn_at M r m d at ≡ took x next → (at < next) × (next ≤ length d)
   unfolding turn_at
   turn_within e = turn_by_lem (record_at d at) (record_within d at) e
+
+  -- A record that the bytes cut off is not bad: more of them may follow
+  pub cut_not_bad : record_at d at ≡ Err Cut → turn_at M r m d at ≡ cut
+  unfolding turn_at
+  cut_not_bad e = ap (turn_by M r m d) e
+
+  -- and what is bad is never so by the fault Cut
+  pub bad_never_cut : turn_at M r m d at ≡ bad → record_at d at ≡ Err Cut → ⊥
+  bad_never_cut b e = cut_or_bad (sym (cut_not_bad e) ∙ b)
 
 -- ---- the count that only ends the definition
 

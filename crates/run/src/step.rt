@@ -76,8 +76,9 @@ fn behind(w: Option<usize>, next: usize) -> Result<Took, Untaken>
     Ok(Took { next, put })
 }
 
-// The record at a place of the bytes that are there.
+// The record at a place of the bytes that are there. Compiled into the loop over records, its one caller (docs/SPEED.md).
 #[tactic(auto, using(crate::proofs::Records::by_reading), unfolding(crate::specs::Lines::turn_at))]
+#[inline(always)]
 pub fn take_record(
     window: &[u8],
     at: usize,

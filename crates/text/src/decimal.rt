@@ -20,7 +20,11 @@ pub trait Decimal: Copy {
 impl Decimal for u64 {
     ghost number = { λ n. n };
 
+    // Most numbers of a line have one digit, which is seen without a logarithm.
     fn width(self) -> usize {
+        if 0 < self && self < 10 {
+            return 1;
+        }
         match self.checked_ilog10() {
             Some(last) => last as usize + 1,
             None => 1,

@@ -40,7 +40,7 @@ fn left_after_numbers<N: Decimal>(room: usize, list: &[N]) -> Option<usize>
     Some(left)
 }
 
-// ---- A whole line.
+// ---- A whole line. Its methods are compiled into whoever calls them, where the word and the number of numbers are known (docs/SPEED.md).
 
 #[derive(Clone, Copy)]
 pub struct Line<'a> {
@@ -63,6 +63,7 @@ impl<'a> Line<'a> {
     }
 
     // How much of some room is left after it.
+    #[inline(always)]
     pub fn left_after(self, room: usize) -> Option<usize>
         ensures { result ≡ left_by room (length (bytes_of self.entry)) }
     {
@@ -72,6 +73,7 @@ impl<'a> Line<'a> {
     }
 
     // Puts it at a place of a lent buffer, where the caller has seen that there is room, and answers the place after it.
+    #[inline(always)]
     pub fn put(self, out: &mut [u8], at: usize) -> usize
         requires { at + length (bytes_of self) ≤ length out.old }
         ensures { PutAt out.old at (bytes_of self.entry) result out.new }
@@ -85,6 +87,7 @@ impl<'a> Line<'a> {
     }
 
     // Puts it there if there is room for all of it, and answers the place after it.
+    #[inline(always)]
     pub fn write(self, out: &mut [u8], at: usize) -> Option<usize>
         ensures { Placed out.old at (bytes_of self.entry) result out.new }
     {

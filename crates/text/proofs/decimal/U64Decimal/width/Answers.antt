@@ -7,3 +7,6 @@ returns-in-Some c = sym (width_power _ _ c.in-Some.ensures.power_le c.in-Some.en
 
 pub returns-in-None : goal.returns-in-None
 returns-in-None c = sym (width_small _ (omega (arith, c.in-None.ensures.none)))
+
+pub returns-then-self-lt10 : goal.returns-then-self-lt10
+returns-then-self-lt10 c = sym (width_small _ (omega arith))
