@@ -20,7 +20,7 @@ pub trait Decimal: Copy {
 impl Decimal for u64 {
     ghost number = { λ n. n };
 
-    // Most numbers of a line have one digit, which is seen without a logarithm.
+    // Most numbers of a line have one digit, which is seen without a logarithm; 0, which has no logarithm, is the last arm's.
     fn width(self) -> usize {
         if 0 < self && self < 10 {
             return 1;
